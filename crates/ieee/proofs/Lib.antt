@@ -1,0 +1,9 @@
+pub mod Round
+pub mod Algebra
+pub mod Like
+pub mod Compare
+pub mod Order
+pub mod Rounds
+pub mod Held
+pub mod Exact
+pub mod Mono
