@@ -11,7 +11,7 @@ use lib.Ieee.Fits.{up-pos, down-pos, eq→eqb}
 use lib.Ieee.Bits.{is-true}
 use lib.Ieee.Positive.{above, first-pos}
 use lib.Ieee.Scale.{finite}
-use Rattle.ieee.specs.Alike.{plain, signed, Like, alike}
+use Rattle.ieee.specs.Alike.{plain, signed, Like, Alike, sameNumber}
 use Rattle.ieee.proofs.Like.{plain-neg, like-refl}
 
 -- two tests that imply each other are the same
@@ -234,8 +234,8 @@ pub like-cond : {s p q : Bool} {x x' y y' : Float} → p ≡ q → Like s x x' �
 like-cond {p = true} e h k = rw (← e) h
 like-cond {p = false} e h k = rw (← e) k
 
--- ---- `Like false` says what the paper says
-own : (y : Float) → T (alike y y)
+-- ---- `Alike` says what document 01 says
+own : (y : Float) → T (sameNumber y y)
 unfolding eq isNan
 own nan = tt
 own (inf true) = tt
@@ -243,8 +243,8 @@ own (inf false) = tt
 own (fin true m e) = rw (is-true (eqb (m * up e * down e) (m * up e * down e)) (eqb-refl (m * up e * down e))) tt
 own (fin false m e) = rw (is-true (eqb (m * up e * down e) (m * up e * down e)) (eqb-refl (m * up e * down e))) tt
 
-pub like→alike : {x y : Float} → Like false x y → T (alike x y)
-like→alike {x} {y} p = rw (like-eq p (like-refl y), like-nan p) (own y)
+pub alike→same : {x y : Float} → Alike x y → T (sameNumber x y)
+alike→same {x} {y} p = rw (like-eq p (like-refl y), like-nan p) (own y)
 
 -- ---- against zero
 pub zero-lt : (s : Bool) (e : ℤ) (x : Float) → lt (fin s zero e) x ≡ above x

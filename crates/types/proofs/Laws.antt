@@ -1,0 +1,3 @@
+pub mod Samples
+pub mod Each
+pub mod Turn

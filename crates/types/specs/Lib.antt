@@ -1,0 +1,4 @@
+pub mod Refusal
+pub mod Samples
+pub mod Each
+pub mod Turn
