@@ -40,17 +40,17 @@ below-zero true false n u v P Q d = rw zero-add (ltb-scale n u v P Q)
 below-zero false true n u v P Q d = refl
 below-zero false false n u v P Q d = ltb-scale n u v P Q
 
-lt-zero : (s : Bool) (e : ℤ) (y : Float) → lt (fin s zero e) y ≡ above y
+pub zero-lt : (s : Bool) (e : ℤ) (y : Float) → lt (fin s zero e) y ≡ above y
 unfolding lt
-lt-zero s e nan = refl
-lt-zero s e (inf t) = refl
-lt-zero s e (fin t n d) = lt-fin s t zero n e d ∙ simp zero-mul (below-zero s t n (up d) (down e) (up-pos d) (down-pos e) d)
+zero-lt s e nan = refl
+zero-lt s e (inf t) = refl
+zero-lt s e (fin t n d) = lt-fin s t zero n e d ∙ simp zero-mul (below-zero s t n (up d) (down e) (up-pos d) (down-pos e) d)
 
 lt-left : (x y : Float) → lt (plain x) y ≡ lt x y
 unfolding plain lt
 lt-left nan y = refl
 lt-left (inf s) y = refl
-lt-left (fin s zero e) y = lt-zero false (pos 0) y ∙ sym (lt-zero s e y)
+lt-left (fin s zero e) y = zero-lt false (pos 0) y ∙ sym (zero-lt s e y)
 lt-left (fin s (suc m) e) y = refl
 
 -- -x < -y where y < x
@@ -203,7 +203,7 @@ nan-plain (fin s zero e) = refl
 nan-plain (fin s (suc m) e) = refl
 
 nan-signed : (s : Bool) (x : Float) → isNan (signed s x) ≡ isNan x
-unfolding isNan signed
+unfolding isNan signed neg
 nan-signed false x = refl
 nan-signed true nan = refl
 nan-signed true (inf s) = refl
@@ -217,7 +217,7 @@ finite-plain (fin s zero e) = refl
 finite-plain (fin s (suc m) e) = refl
 
 finite-signed : (s : Bool) (x : Float) → finite (signed s x) ≡ finite x
-unfolding signed
+unfolding signed neg
 finite-signed false x = refl
 finite-signed true nan = refl
 finite-signed true (inf s) = refl
@@ -247,12 +247,9 @@ pub alike→same : {x y : Float} → Alike x y → T (sameNumber x y)
 alike→same {x} {y} p = rw (like-eq p (like-refl y), like-nan p) (own y)
 
 -- ---- against zero
-pub zero-lt : (s : Bool) (e : ℤ) (x : Float) → lt (fin s zero e) x ≡ above x
-zero-lt = lt-zero
-
-pub lt-zero-is : (s : Bool) (e : ℤ) (x : Float) → lt x (fin s zero e) ≡ above (neg x)
+pub lt-zero : (s : Bool) (e : ℤ) (x : Float) → lt x (fin s zero e) ≡ above (neg x)
 unfolding neg
-lt-zero-is s e x = sym (lt-negs (fin s zero e) x) ∙ lt-zero (not s) e (neg x)
+lt-zero s e x = sym (lt-negs (fin s zero e) x) ∙ zero-lt (not s) e (neg x)
 
 pub not-both : (x : Float) → T (above x) → T (above (neg x)) → ⊥
 unfolding neg

@@ -1,16 +1,39 @@
--- Where nothing is lost: a fraction on the format's grid is its own rounding.
+-- Where nothing is lost: a fraction that the format holds is its own rounding, and so are the half and the double of a value that is not too small or too large.
 -- Assumes nothing.
-use mathlib.Core.Path.{_≡_, sym, ap, _∙_}
-use Prim.Native.Nat.{ℕ, _+_, _-_, _*_, _≤_}
-use native.Mathlib.Nat.{add-mul}
+use mathlib.Core.Path.{_≡_, refl, sym, ap, _∙_, subst}
+use Prim.Native.Nat.{ℕ, zero, suc, _+_, _-_, _*_, _^_, _≤_, _<_}
+use native.Mathlib.Nat.{eq-of-mul-eq-mul-right, zero-lt-suc, add-mul, mul-one, one-mul, mul-zero, mul-suc, add-zero, zero-add, mul-assoc, mul-right-comm, mul-pos, pow-suc, pow-succ', mul-lt-mul-of-pos-right, lt-of-mul-lt-mul-right, le-trans, le-of-eq}
 use native.Mathlib.Omega.{arith}
 use mathlib.Core.Bool.{Bool, true, false}
-use lib.Ieee.{Float, Format, round}
+use lib.IntN.{ℤ, pos, negsuc}
+use lib.Dec.{T}
+use lib.Ieee.{Float, nan, inf, fin, Format, prec, emax, low, up, down, round, mul, fits}
+use lib.Ieee.Fits.{down-pos, round-fits}
+use lib.Ieee.Back.{round-whole}
 use lib.Ieee.Exact.{HasValue}
-use Rattle.ieee.proofs.Order.{Val, has-val}
-use Rattle.ieee.proofs.Rounds.{Rounds, high, deep}
+use lib.Ieee.Scale.{finite, round-same}
+use lib.Ieee.Positive.{den, den-pos}
+use Rattle.ieee.specs.Alike.{Alike}
+use Rattle.ieee.specs.Fraction.{plus, less}
+use Rattle.ieee.proofs.Round.{round-zero}
+use Rattle.ieee.proofs.Order.{Val, has-val, between}
+use Rattle.ieee.proofs.Rounds.{Rounds, high, deep, rounds-same, mul-rounds}
+use Rattle.ieee.proofs.Held.{fits-parts, on-grid, rounds-above, rounds-below}
+use Rattle.ieee.proofs.Unique.{le-both}
 
--- ---- where nothing is lost: the fraction is on the format's grid
+-- ---- a result that the format holds is not rounded
+rounds-fits : (f : Format) (z : Float) (p n c : ℕ) → Rounds f z p n c → T (fits f z)
+rounds-fits f z p n c (high a e) = rw e (round-fits f false (p - n) c)
+rounds-fits f z p n c (deep a e) = rw e (round-fits f true (n - p) c)
+
+-- y has the value (p - n) / c, and z is that value rounded once
+pub rounds-held : (f : Format) (y z : Float) (p n c : ℕ) → 0 < c → T (fits f y) → Val y p n c → Rounds f z p n c → Alike z y
+rounds-held f y z p n c C t v r =
+    let lo = rounds-above f y z p n c p n c t v C C r (le-of-eq refl) in
+    let hi = rounds-below f y z p n c p n c t v C C r (le-of-eq refl) in
+    le-both f z y (rounds-fits f z p n c r) t (between y z y (v .0) (v .0) lo hi) (v .0) hi lo
+
+-- the same of magnitudes: a / c is on the format's grid
 abbrev pub Exact : Format → ℕ → ℕ → Type 0
 Exact f a c = (s : Bool) → HasValue (round f s a c) s a c
 
@@ -27,3 +50,131 @@ rounds-exact f z p n c g h (deep a e) = rw e (let v = has-val (round f true (n -
     over p n c P N d a e =
         let x : (n - p) * d + p * d ≡ n * d = sym (add-mul (n - p) p d) ∙ ap (λ (z : ℕ). z * d) (omega arith) in
         omega arith
+
+-- ---- which fractions are
+-- a whole number of at most prec digits
+pub whole-exact : (f : Format) (n : ℕ) → n ≤ 2 ^ prec f → Exact f n 1
+whole-exact f n h s = round-whole f s n h
+
+same-value : (x : Float) (s : Bool) (a c b d : ℕ) → 0 < c → a * d ≡ b * c → HasValue x s a c → HasValue x s b d
+same-value nan s a c b d C h v = absurd v
+same-value (inf t) s a c b d C h v = absurd v
+same-value (fin t m e) s a c b d C h v = (v .0, eq-of-mul-eq-mul-right c C (m * up e * d) (b * down e) (cross (m * up e) (down e) (v .1)))
+  where
+    cross : (u w : ℕ) → u * c ≡ a * w → u * d * c ≡ b * w * c
+    cross u w g = mul-right-comm u d c ∙ ap (λ (z : ℕ). z * d) g ∙ mul-right-comm a w d ∙ ap (λ (z : ℕ). z * w) h ∙ mul-right-comm b c w
+
+-- another fraction of the same value
+pub exact-same : (f : Format) (a c b d : ℕ) → 0 < c → 0 < d → a * d ≡ b * c → Exact f a c → Exact f b d
+exact-same f a c b d C D h g s = same-value (round f s b d) s a c b d C h (subst (λ (x : Float). HasValue x s a c) (round-same f s a c b d C D h) (g s))
+
+-- ---- the half and the double of m * 2 ^ e
+lower : ℤ → ℤ
+lower (pos zero) = negsuc zero
+lower (pos (suc k)) = pos k
+lower (negsuc k) = negsuc (suc k)
+
+raise : ℤ → ℤ
+raise (pos k) = pos (suc k)
+raise (negsuc zero) = pos zero
+raise (negsuc (suc k)) = negsuc k
+
+lower-half : (e : ℤ) → up (lower e) * (down e * 2) ≡ up e * down (lower e)
+unfolding lower
+lower-half (pos zero) = refl
+lower-half (pos (suc k)) = sym (pow-suc 2 k) ∙ sym (mul-one (2 ^ suc k))
+lower-half (negsuc k) = ap (λ (z : ℕ). 1 * z) (sym (pow-suc 2 (suc k)))
+
+raise-double : (e : ℤ) → up (raise e) * down e ≡ up e * 2 * down (raise e)
+unfolding raise
+raise-double (pos k) = ap (λ (z : ℕ). z * 1) (pow-suc 2 k)
+raise-double (negsuc zero) = refl
+raise-double (negsuc (suc k)) = one-mul (2 ^ suc (suc k)) ∙ pow-succ' 2 (suc k)
+
+lower-down : (f : Format) (e : ℤ) → down e * 2 ≤ 2 ^ low f → down (lower e) ≤ 2 ^ low f
+unfolding lower
+lower-down f (pos zero) h = h
+lower-down f (pos (suc k)) h = omega arith
+lower-down f (negsuc k) h = le-trans (le-of-eq (pow-suc 2 (suc k))) h
+
+raise-down : (e : ℤ) (l : ℕ) → down e ≤ l → down (raise e) ≤ l
+unfolding raise
+raise-down (pos k) l h = h
+raise-down (negsuc zero) l h = omega arith
+raise-down (negsuc (suc k)) l h = let g : 2 ^ suc (suc k) ≡ 2 * 2 ^ suc k = pow-succ' 2 (suc k) in omega arith
+
+-- A / L is a half of B / D, or its double, and stays below E
+under : (A L B D E k : ℕ) → 0 < D → 0 < L → A * (D * k) ≡ B * L → B < E * D → 0 < k → A < E * L
+under A L B D E k P Q h g K =
+    let x : B * L < E * D * L = mul-lt-mul-of-pos-right g Q in
+    let y : E * D * L ≡ E * L * D = mul-right-comm E D L in
+    let z : A * D ≤ A * (D * k) = widen A D k K in
+    lt-of-mul-lt-mul-right D (omega arith)
+  where
+    widen : (A D k : ℕ) → 0 < k → A * D ≤ A * (D * k)
+    widen A D (suc k) K = let e : A * (D * suc k) ≡ A * D * k + A * D = sym (mul-assoc A D (suc k)) ∙ mul-suc (A * D) k in omega arith
+
+half-grid : (f : Format) (s : Bool) (m : ℕ) (e : ℤ) → T (fits f (fin s m e)) → down e * 2 ≤ 2 ^ low f → Exact f (m * up e) (down e * 2)
+half-grid f s m e t h =
+    let k = fits-parts f s m e t in
+    let g : m * up (lower e) * (down e * 2) ≡ m * up e * down (lower e) = mul-assoc m (up (lower e)) (down e * 2) ∙ ap (λ (z : ℕ). m * z) (lower-half e) ∙ sym (mul-assoc m (up e) (down (lower e))) in
+    exact-same f (m * up (lower e)) (down (lower e)) (m * up e) (down e * 2) (down-pos (lower e)) (mul-pos (down-pos e) (zero-lt-suc 1)) g
+    (λ u. on-grid f u m (lower e) (k .0) (lower-down f e h) (under (m * up (lower e)) (down (lower e)) (m * up e) (down e) (2 ^ suc (emax f)) 2 (down-pos e) (down-pos (lower e)) g (k .2) (zero-lt-suc 1)))
+
+double-grid : (f : Format) (s : Bool) (m : ℕ) (e : ℤ) → T (fits f (fin s m e)) → m * up e * 2 < 2 ^ suc (emax f) * down e → Exact f (m * up e * 2) (down e)
+double-grid f s m e t h =
+    let k = fits-parts f s m e t in
+    let g : m * up (raise e) * down e ≡ m * up e * 2 * down (raise e) = mul-assoc m (up (raise e)) (down e) ∙ ap (λ (z : ℕ). m * z) (raise-double e) ∙ simp mul-assoc in
+    exact-same f (m * up (raise e)) (down (raise e)) (m * up e * 2) (down e) (down-pos (raise e)) (down-pos e) g
+    (λ u. on-grid f u m (raise e) (k .0) (raise-down e (2 ^ low f) (k .1)) (under (m * up (raise e)) (down (raise e)) (m * up e * 2) (down e) (2 ^ suc (emax f)) 1 (down-pos e) (down-pos (raise e)) (ap (λ (z : ℕ). m * up (raise e) * z) (mul-one (down e)) ∙ g) h (zero-lt-suc 0)))
+
+zero-exact : (f : Format) (c : ℕ) → 0 < c → Exact f 0 c
+zero-exact f c C s = rw (round-zero f s c C) (refl, omega arith)
+
+-- of a fraction with one part 0, what `rounds-exact` asks
+one-sided : (f : Format) (z : Float) (p n c : ℕ) → 0 < c → p ≡ 0 → Exact f n c → Rounds f z p n c → Val z p n c
+one-sided f z p n c C h g r =
+    rounds-exact f z p n c
+    (λ k. subst (λ (w : ℕ). Exact f w c) (omega arith) (zero-exact f c C))
+    (λ k. subst (λ (w : ℕ). Exact f w c) (omega arith) g) r
+
+other-sided : (f : Format) (z : Float) (p n c : ℕ) → 0 < c → n ≡ 0 → Exact f p c → Rounds f z p n c → Val z p n c
+other-sided f z p n c C h g r =
+    rounds-exact f z p n c
+    (λ k. subst (λ (w : ℕ). Exact f w c) (omega arith) g)
+    (λ k. subst (λ (w : ℕ). Exact f w c) (omega arith) (zero-exact f c C)) r
+
+abbrev pub half₀ : Float
+half₀ = fin false 1 (negsuc 0)
+
+abbrev pub two₀ : Float
+two₀ = fin false 1 (pos 1)
+
+half-rounds : (f : Format) (x : Float) → T (finite x) → Rounds f (mul f x half₀) (plus x) (less x) (den x * 2)
+half-rounds f x p =
+    let C = mul-pos (den-pos x) (zero-lt-suc 1) in
+    rounds-same f (mul f x half₀) _ _ _ (plus x) (less x) (den x * 2) C C (flat (plus x) (less x) (den x * 2)) (mul-rounds f x half₀ p tt)
+  where
+    flat : (P N c : ℕ) → (P * 1 + N * 0) * c + N * c ≡ P * c + (P * 0 + N * 1) * c
+    flat P N c = simp (mul-one, mul-zero, add-zero, zero-add)
+
+-- x / 2 is exact where the format's grid goes one place lower
+pub half-exact : (f : Format) (x : Float) → T (finite x) → T (fits f x) → den x * 2 ≤ 2 ^ low f → Val (mul f x half₀) (plus x) (less x) (den x * 2)
+half-exact f nan p t h = absurd p
+half-exact f (inf s) p t h = absurd p
+half-exact f (fin true m e) p t h = one-sided f _ _ _ _ (mul-pos (down-pos e) (zero-lt-suc 1)) refl (half-grid f true m e t h) (half-rounds f (fin true m e) tt)
+half-exact f (fin false m e) p t h = other-sided f _ _ _ _ (mul-pos (down-pos e) (zero-lt-suc 1)) refl (half-grid f false m e t h) (half-rounds f (fin false m e) tt)
+
+double-rounds : (f : Format) (x : Float) → T (finite x) → Rounds f (mul f x two₀) (plus x * 2) (less x * 2) (den x)
+double-rounds f x p =
+    rounds-same f (mul f x two₀) _ _ _ (plus x * 2) (less x * 2) (den x) (mul-pos (den-pos x) (zero-lt-suc 0)) (den-pos x) (flat (plus x) (less x) (den x)) (mul-rounds f x two₀ p tt)
+  where
+    flat : (P N c : ℕ) → (P * 2 + N * 0) * c + N * 2 * (c * 1) ≡ P * 2 * (c * 1) + (P * 0 + N * 2) * c
+    flat P N c = simp (mul-one, mul-zero, add-zero, zero-add)
+
+-- 2 * x is exact where it does not overflow
+pub double-exact : (f : Format) (x : Float) → T (finite x) → T (fits f x) → (plus x + less x) * 2 < 2 ^ suc (emax f) * den x → Val (mul f x two₀) (plus x * 2) (less x * 2) (den x)
+double-exact f nan p t h = absurd p
+double-exact f (inf s) p t h = absurd p
+double-exact f (fin true m e) p t h = one-sided f _ _ _ _ (down-pos e) refl (double-grid f true m e t (omega arith)) (double-rounds f (fin true m e) tt)
+double-exact f (fin false m e) p t h = other-sided f _ _ _ _ (down-pos e) refl (double-grid f false m e t (omega arith)) (double-rounds f (fin false m e) tt)

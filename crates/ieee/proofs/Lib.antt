@@ -3,7 +3,10 @@ pub mod Algebra
 pub mod Like
 pub mod Compare
 pub mod Order
+pub mod Unique
 pub mod Rounds
 pub mod Held
 pub mod Exact
 pub mod Mono
+pub mod Apart
+pub mod Error

@@ -9,7 +9,7 @@ use lib.IntN.{ℤ, pos}
 use lib.Ieee.{Float, nan, inf, fin, Format, up, down, unlike, round, sum, neg, add, sub, mul, div}
 use lib.Ieee.Fits.{up-pos, down-pos}
 use lib.Ieee.Scale.{round-same}
-use Rattle.ieee.specs.Alike.{plain, signed, Like}
+use Rattle.ieee.specs.Alike.{plain, signed, Like, Alike}
 use Rattle.ieee.proofs.Round.{round-neg, round-zero}
 use Rattle.ieee.proofs.Algebra.{neg-neg, mul-negs, mul-swap, mul-signed, add-swap, sub-is, div-neg}
 
@@ -108,19 +108,19 @@ infs-odd true false = refl
 infs-odd false true = refl
 infs-odd false false = refl
 
-pub add-odd : (f : Format) (x y : Float) → plain (add f (neg x) (neg y)) ≡ plain (neg (add f x y))
+plain-odd : (f : Format) (x y : Float) → plain (add f (neg x) (neg y)) ≡ plain (neg (add f x y))
 unfolding add neg
-add-odd f nan y = refl
-add-odd f (inf s) nan = refl
-add-odd f (inf s) (inf t) = ap plain (infs-odd s t)
-add-odd f (inf s) (fin t n d) = refl
-add-odd f (fin s m e) nan = refl
-add-odd f (fin s m e) (inf t) = refl
-add-odd f (fin s m e) (fin t n d) = sum-odd f s t (m * up e * down d) (n * up d * down e) (down e * down d) (mul-pos (down-pos e) (down-pos d))
+plain-odd f nan y = refl
+plain-odd f (inf s) nan = refl
+plain-odd f (inf s) (inf t) = ap plain (infs-odd s t)
+plain-odd f (inf s) (fin t n d) = refl
+plain-odd f (fin s m e) nan = refl
+plain-odd f (fin s m e) (inf t) = refl
+plain-odd f (fin s m e) (fin t n d) = sum-odd f s t (m * up e * down d) (n * up d * down e) (down e * down d) (mul-pos (down-pos e) (down-pos d))
 
 add-signed : (f : Format) (s : Bool) (x y : Float) → plain (add f (signed s x) (signed s y)) ≡ plain (signed s (add f x y))
 unfolding signed
-add-signed f true x y = add-odd f x y
+add-signed f true x y = plain-odd f x y
 add-signed f false x y = refl
 
 -- ---- quotients, in the numerator: a denominator's zero shows its sign
@@ -240,6 +240,11 @@ like-mul-r f {s = false} p q = like-mul f p q
 
 pub like-div : (f : Format) {s : Bool} {x x' : Float} (y : Float) → Like s x x' → Like s (div f x y) (div f x' y)
 like-div f {s} {x} {x'} y p = record { same = cc (div-left f x y, p .same, div-left f (signed s x') y, div-signed f s x' y) }
+
+-- a sum is odd: -x + -y is -(x + y), to the sign of a zero
+pub add-odd : (f : Format) (x y : Float) → Alike (add f (neg x) (neg y)) (neg (add f x y))
+unfolding signed
+add-odd f x y = record { same = plain-odd f x y }
 
 -- squares are the same as data: no zero's sign is left
 square-plain : (f : Format) (x : Float) → mul f (plain x) (plain x) ≡ mul f x x

@@ -23,17 +23,9 @@ abbrev pub Cross : Float → Float → Type 0
 Cross x y = plus x * den y + less y * den x ≤ plus y * den x + less x * den y
 
 -- ---- the order
-or-split : (a b : Bool) → T (a || b) → T a ⊎ T b
+pub or-split : (a b : Bool) → T (a || b) → T a ⊎ T b
 or-split true b t = inl tt
 or-split false b t = inr t
-
-or-l : (a b : Bool) → T a → T (a || b)
-or-l true b t = tt
-or-l false b t = absurd t
-
-or-r : (a b : Bool) → T b → T (a || b)
-or-r true b t = tt
-or-r false b t = t
 
 -- of two magnitudes with the same sign, the test that `le` is
 of-le : (a b a' b' : ℕ) → a ≤ b → (a ≡ b → a' ≡ b') → T (ltb a b || (eqb a' b' && true))
