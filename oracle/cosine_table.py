@@ -1,0 +1,187 @@
+#!/usr/bin/env python3
+"""The cosine table: entry j is the f32 nearest to cos(2 pi j / 4096), j = 0 .. 4096.
+
+Whole numbers only, so nothing here is rounded by accident. Every value is held as an
+interval: two whole numbers lo <= hi that stand for lo / 2**BITS and hi / 2**BITS, with the
+true value in between. An entry is accepted only if both ends round to the same f32. Rounding
+to the nearest f32 is monotone, so the true value then rounds to it as well.
+
+    python3 cosine_table.py            writes cosine_table.txt beside this script
+    python3 cosine_table.py --check    compares that file with what is computed here
+"""
+
+import sys
+from fractions import Fraction
+from pathlib import Path
+
+TURN = 4096          # entries in a turn; entry TURN repeats entry 0
+BITS = 256           # places after the binary point of an interval's ends
+ONE = 1 << BITS
+FILE = Path(__file__).resolve().parent / "cosine_table.txt"
+
+
+def floor_div(a, b):
+    """a / b rounded down, b above 0."""
+    return a // b
+
+
+def ceil_div(a, b):
+    """a / b rounded up, b above 0."""
+    return -((-a) // b)
+
+
+def arctan_of_inverse(k):
+    """An interval around arctan(1 / k) for a whole k above 1.
+
+    The series 1/k - 1/(3 k^3) + 1/(5 k^5) - ... alternates and its terms fall, so the rest
+    after any term is between 0 and the next term.
+    """
+    lo = hi = 0
+    n = 0
+    while True:
+        bottom = (2 * n + 1) * k ** (2 * n + 1)
+        down, up = floor_div(ONE, bottom), ceil_div(ONE, bottom)
+        if down == 0:
+            # The rest lies between minus and plus one of the last place.
+            return lo - up, hi + up
+        if n % 2 == 0:
+            lo, hi = lo + down, hi + up
+        else:
+            lo, hi = lo - up, hi - down
+        n += 1
+
+
+def pi_interval():
+    """An interval around pi, by Machin: pi = 16 arctan(1/5) - 4 arctan(1/239)."""
+    a_lo, a_hi = arctan_of_inverse(5)
+    b_lo, b_hi = arctan_of_inverse(239)
+    return 16 * a_lo - 4 * b_hi, 16 * a_hi - 4 * b_lo
+
+
+def cosine_of(x_lo, x_hi):
+    """An interval around cos x for x between the ends, both from 0 to 2.
+
+    cos x = 1 - x^2/2! + x^4/4! - ... For every x the cosine lies between two partial sums
+    that follow each other, so the first term left out bounds the rest on both sides.
+    """
+    sq_lo, sq_hi = floor_div(x_lo * x_lo, ONE), ceil_div(x_hi * x_hi, ONE)
+    t_lo = t_hi = ONE                      # the term x^(2n) / (2n)!
+    lo = hi = 0
+    n = 0
+    while True:
+        if n % 2 == 0:
+            lo, hi = lo + t_lo, hi + t_hi
+        else:
+            lo, hi = lo - t_hi, hi - t_lo
+        n += 1
+        step = (2 * n - 1) * (2 * n)
+        t_lo = floor_div(t_lo * sq_lo, ONE * step)
+        t_hi = ceil_div(t_hi * sq_hi, ONE * step)
+        if t_lo == 0 and t_hi <= 2:
+            return lo - t_hi, hi + t_hi
+
+
+def nearest_f32(value):
+    """The bits of the f32 nearest to value / 2**BITS, ties to even; value above 0 and the
+    result in the range of the normal numbers."""
+    exponent = value.bit_length() - 1 - BITS       # 2**exponent <= value < 2**(exponent + 1)
+    if exponent < -126 or exponent > 0:
+        raise SystemExit("cosine table: a value outside the range expected")
+    shift = exponent + BITS - 23                   # bits below the 24 that an f32 keeps
+    kept, rest = value >> shift, value & ((1 << shift) - 1)
+    half = 1 << (shift - 1)
+    if rest > half or (rest == half and kept & 1):
+        kept += 1
+    # A carry out of the 24 bits moves on into the exponent field by itself.
+    return ((exponent + 127) << 23) + (kept - (1 << 23))
+
+
+def first_quarter():
+    """The bits of the entries 0 to 1024."""
+    pi_lo, pi_hi = pi_interval()
+    if not 0 < pi_hi - pi_lo < 1 << 20:
+        raise SystemExit("cosine table: pi is not known closely enough")
+    entries = [nearest_f32(ONE)]                   # the cosine of 0 is exactly 1
+    for j in range(1, TURN // 4):
+        x_lo = floor_div(2 * j * pi_lo, TURN)
+        x_hi = ceil_div(2 * j * pi_hi, TURN)
+        lo, hi = cosine_of(x_lo, x_hi)
+        if not 0 < lo <= hi < ONE:
+            raise SystemExit(f"cosine table: entry {j}: an interval outside 0 to 1")
+        down, up = nearest_f32(lo), nearest_f32(hi)
+        if down != up:
+            raise SystemExit(f"cosine table: entry {j}: the interval straddles a rounding boundary")
+        entries.append(down)
+    entries.append(0)                              # a quarter turn: exactly 0, plus zero
+    return entries
+
+
+def negated(bits):
+    """The bits of the negated number; plus zero stays plus zero."""
+    return bits ^ 0x8000_0000 if bits else 0
+
+
+def bit_patterns():
+    """Yields the 4,097 bit patterns in order.
+
+    The other three quarters follow from the first: cos(pi - x) = -cos x and
+    cos(2 pi - x) = cos x hold exactly, and rounding to nearest even treats both signs alike.
+    """
+    quarter = first_quarter()
+    half = quarter + [negated(b) for b in reversed(quarter[:-1])]
+    yield from half
+    yield from reversed(half[:-1])
+
+
+def value_of(bits):
+    """The number an f32's bits stand for; normal numbers and zeros only."""
+    sign = -1 if bits >> 31 else 1
+    exponent, fraction = (bits >> 23) & 0xFF, bits & 0x7F_FFFF
+    if exponent == 0:
+        if fraction:
+            raise SystemExit("cosine table: a subnormal entry")
+        return Fraction(0)
+    return sign * Fraction((1 << 23) | fraction) * Fraction(2) ** (exponent - 150)
+
+
+def check_rules(patterns):
+    """The rules that document 01 states over all entries, in exact fractions."""
+    c = [value_of(b) for b in patterns]
+    rules = {
+        "4,097 entries": len(c) == TURN + 1,
+        "entry 0 is 1 and equals entry 4096": c[0] == 1 and patterns[0] == patterns[TURN],
+        "entries 1024 and 3072 are plus zero": patterns[1024] == 0 == patterns[3072],
+        "j + 2048 negates j": all(c[j + 2048] == -c[j] for j in range(2049)),
+        "2048 - j negates j": all(c[2048 - j] == -c[j] for j in range(2049)),
+        "entries 0 to 2048 strictly fall": all(c[j + 1] < c[j] for j in range(2048)),
+        "the doubling rule": all(
+            abs((2 * c[j] * c[j] - 1) - c[2 * j]) <= Fraction(1, 2**22) for j in range(2049)
+        ),
+    }
+    for rule, holds in rules.items():
+        if not holds:
+            raise SystemExit(f"cosine table: this rule does not hold: {rule}")
+
+
+def as_text(patterns):
+    """The file: one word of eight hexadecimal digits a line."""
+    return "".join(f"{b:08x}\n" for b in patterns)
+
+
+def main(arguments):
+    patterns = list(bit_patterns())
+    check_rules(patterns)
+    text = as_text(patterns)
+    if arguments == ["--check"]:
+        if FILE.read_text(encoding="ascii") != text:
+            raise SystemExit(f"cosine table: {FILE.name} differs from what is computed")
+        print(f"cosine table: {FILE.name} holds the {len(patterns)} entries computed")
+    elif not arguments:
+        FILE.write_text(text, encoding="ascii")
+        print(f"cosine table: {len(patterns)} entries written to {FILE.name}")
+    else:
+        raise SystemExit(__doc__)
+
+
+if __name__ == "__main__":
+    main(sys.argv[1:])

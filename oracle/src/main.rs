@@ -1,0 +1,111 @@
+//! Builds the original timing and carrier loops unchanged and plays operations against them.
+//! README.md says how it is used.
+
+use std::fs;
+use std::io::{self, Read, Write};
+use std::path::Path;
+use std::process::ExitCode;
+
+// The original files and the stand-ins beside them, as the build script found them. They name
+// each other from the crate's root, so they stand at this crate's root.
+include!(concat!(env!("OUT_DIR"), "/original.rs"));
+
+mod bits;
+mod compare;
+mod fields;
+mod numbers;
+mod play;
+mod random;
+mod refusal;
+mod signal;
+
+/// The original's first implementation, the one that is ported.
+pub struct Fallback;
+/// The original's second implementation.
+pub struct Reference;
+
+const USAGE: &str = "\
+usage: oracle play [--reference] SCRIPT   plays a script ('-' reads standard input)
+       oracle compare [--seed S] [--symbols N]
+       oracle numbers                     writes the recorded answers of the number operations
+       oracle record FOLDER               writes all recorded answers, FOLDER/NAME/stdin each";
+
+/// Makes the text of one file of recorded answers.
+type Make = fn() -> String;
+
+/// Recorded answers: the folder that each file goes to, and what makes it.
+const RECORDED: [(&str, Make); 1] = [("numbers_replay", numbers::recorded)];
+
+fn main() -> ExitCode {
+    let words: Vec<String> = std::env::args().skip(1).collect();
+    let words: Vec<&str> = words.iter().map(String::as_str).collect();
+    let done = match words[..] {
+        ["play", script] => play_file(Fallback, script),
+        ["play", "--reference", script] => play_file(Reference, script),
+        ["compare", ref options @ ..] => compare_as_asked(options),
+        ["numbers"] => write_out(&numbers::recorded()),
+        ["record", folder] => record(Path::new(folder)),
+        _ => Err(USAGE.to_string()),
+    };
+    match done {
+        Ok(code) => code,
+        Err(message) => {
+            eprintln!("{message}");
+            ExitCode::from(2)
+        }
+    }
+}
+
+fn play_file<K: play::Kernel>(kernel: K, script: &str) -> Result<ExitCode, String> {
+    let text = if script == "-" {
+        let mut text = String::new();
+        let read = io::stdin().read_to_string(&mut text);
+        read.map(|_| text)
+    } else {
+        fs::read_to_string(script)
+    };
+    let text = text.map_err(|error| format!("{script}: {error}"))?;
+    let mut answers = String::new();
+    let end = play::play(kernel, &text, &mut answers);
+    write_out(&answers)?;
+    end.map(|()| ExitCode::SUCCESS)
+}
+
+/// `--seed` and `--symbols` in any order.
+fn compare_as_asked(options: &[&str]) -> Result<ExitCode, String> {
+    let (mut seed, mut symbols) = (compare::SEED, compare::SYMBOLS);
+    for option in options.chunks(2) {
+        let [name, value] = option else {
+            return Err(USAGE.to_string());
+        };
+        let number: u64 = value.parse().map_err(|_| USAGE.to_string())?;
+        match *name {
+            "--seed" => seed = number,
+            "--symbols" => symbols = number,
+            _ => return Err(USAGE.to_string()),
+        }
+    }
+    let report = compare::compare(seed, symbols);
+    write_out(&report.text)?;
+    Ok(if report.clean {
+        ExitCode::SUCCESS
+    } else {
+        ExitCode::FAILURE
+    })
+}
+
+fn record(folder: &Path) -> Result<ExitCode, String> {
+    for (name, make) in RECORDED {
+        let file = folder.join(name).join("stdin");
+        fs::write(&file, make()).map_err(|error| format!("{}: {error}", file.display()))?;
+        println!("{}", file.display());
+    }
+    Ok(ExitCode::SUCCESS)
+}
+
+fn write_out(text: &str) -> Result<ExitCode, String> {
+    io::stdout()
+        .write_all(text.as_bytes())
+        .map_err(|error| format!("standard output: {error}"))?;
+    Ok(ExitCode::SUCCESS)
+}
