@@ -12,14 +12,8 @@ use lib.Ieee.Bits.{is-true}
 use lib.Ieee.Positive.{above, first-pos}
 use lib.Ieee.Scale.{finite}
 use Rattle.ieee.specs.Alike.{plain, signed, Like, Alike, sameNumber}
+use Rattle.ieee.proofs.Test.{same-test}
 use Rattle.ieee.proofs.Like.{plain-neg, like-refl}
-
--- two tests that imply each other are the same
-pub same-test : (a b : Bool) → (T a → T b) → (T b → T a) → a ≡ b
-same-test true true p q = refl
-same-test true false p q = absurd (p tt)
-same-test false true p q = absurd (q tt)
-same-test false false p q = refl
 
 ltb-scale : (n u v : ℕ) → 0 < u → 0 < v → ltb 0 (n * u * v) ≡ ltb 0 n
 ltb-scale n u v P Q =

@@ -1,6 +1,7 @@
 -- Where nothing is lost: a fraction that the format holds is its own rounding, and so are the half and the double of a value that is not too small or too large.
 -- Assumes nothing.
 use mathlib.Core.Path.{_≡_, refl, sym, ap, _∙_, subst}
+use mathlib.Core.Logic.{inl, inr}
 use Prim.Native.Nat.{ℕ, zero, suc, _+_, _-_, _*_, _^_, _≤_, _<_}
 use native.Mathlib.Nat.{eq-of-mul-eq-mul-right, zero-lt-suc, add-mul, mul-one, one-mul, mul-zero, mul-suc, add-zero, zero-add, mul-assoc, mul-right-comm, mul-pos, pow-suc, pow-succ', mul-lt-mul-of-pos-right, lt-of-mul-lt-mul-right, le-trans, le-of-eq}
 use native.Mathlib.Omega.{arith}
@@ -16,7 +17,8 @@ use lib.Ieee.Positive.{den, den-pos}
 use Rattle.ieee.specs.Alike.{Alike}
 use Rattle.ieee.specs.Fraction.{plus, less}
 use Rattle.ieee.proofs.Round.{round-zero}
-use Rattle.ieee.proofs.Order.{Val, has-val, between}
+use Rattle.ieee.proofs.Test.{order}
+use Rattle.ieee.proofs.Order.{val-same, Val, has-val, between}
 use Rattle.ieee.proofs.Rounds.{Rounds, high, deep, rounds-same, mul-rounds}
 use Rattle.ieee.proofs.Held.{fits-parts, on-grid, rounds-above, rounds-below}
 use Rattle.ieee.proofs.Unique.{le-both}
@@ -52,9 +54,23 @@ rounds-exact f z p n c g h (deep a e) = rw e (let v = has-val (round f true (n -
         omega arith
 
 -- ---- which fractions are
+-- zero
+pub zero-exact : (f : Format) (c : ℕ) → 0 < c → Exact f 0 c
+zero-exact f c C s = rw (round-zero f s c C) (refl, omega arith)
+
 -- a whole number of at most prec digits
 pub whole-exact : (f : Format) (n : ℕ) → n ≤ 2 ^ prec f → Exact f n 1
 whole-exact f n h s = round-whole f s n h
+
+pub rounds-whole : (f : Format) (z : Float) (p n : ℕ) → p ≤ n + 2 ^ prec f → n ≤ p + 2 ^ prec f → Rounds f z p n 1 → Val z p n 1
+rounds-whole f z p n h k r = rounds-exact f z p n 1 (λ l. whole-exact f (p - n) (omega arith)) (λ l. whole-exact f (n - p) (omega arith)) r
+
+-- such a number as a float
+pub whole-held : (f : Format) (a b : ℕ) → a ≤ b + 2 ^ prec f → b ≤ a + 2 ^ prec f → (y : Float) × T (fits f y) × Val y a b 1
+whole-held f a b h k = elim (order a b) [
+  | inl l ↦ let r = b - a in let y = round f true r 1 in (y, round-fits f true r 1, val-same y 0 r 1 a b (omega arith) (has-val y true r 1 (round-whole f true r (omega arith))))
+  | inr l ↦ let r = a - b in let y = round f false r 1 in (y, round-fits f false r 1, val-same y r 0 1 a b (omega arith) (has-val y false r 1 (round-whole f false r (omega arith))))
+]
 
 same-value : (x : Float) (s : Bool) (a c b d : ℕ) → 0 < c → a * d ≡ b * c → HasValue x s a c → HasValue x s b d
 same-value nan s a c b d C h v = absurd v
@@ -127,9 +143,6 @@ double-grid f s m e t h =
     let g : m * up (raise e) * down e ≡ m * up e * 2 * down (raise e) = mul-assoc m (up (raise e)) (down e) ∙ ap (λ (z : ℕ). m * z) (raise-double e) ∙ simp mul-assoc in
     exact-same f (m * up (raise e)) (down (raise e)) (m * up e * 2) (down e) (down-pos (raise e)) (down-pos e) g
     (λ u. on-grid f u m (raise e) (k .0) (raise-down e (2 ^ low f) (k .1)) (under (m * up (raise e)) (down (raise e)) (m * up e * 2) (down e) (2 ^ suc (emax f)) 1 (down-pos e) (down-pos (raise e)) (ap (λ (z : ℕ). m * up (raise e) * z) (mul-one (down e)) ∙ g) h (zero-lt-suc 0)))
-
-zero-exact : (f : Format) (c : ℕ) → 0 < c → Exact f 0 c
-zero-exact f c C s = rw (round-zero f s c C) (refl, omega arith)
 
 -- of a fraction with one part 0, what `rounds-exact` asks
 one-sided : (f : Format) (z : Float) (p n c : ℕ) → 0 < c → p ≡ 0 → Exact f n c → Rounds f z p n c → Val z p n c

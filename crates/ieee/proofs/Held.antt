@@ -2,7 +2,7 @@
 -- Assumes nothing.
 use mathlib.Core.Path.{_≡_, refl, sym, ap, _∙_, subst}
 use Prim.Native.Nat.{ℕ, zero, suc, _+_, _-_, _*_, _^_, _≤_, _<_, _%_}
-use native.Mathlib.Nat.{le-of-eq, le-of-suc-le-suc, not-le-of-lt, lt-of-not-le, zero-lt-suc, mul-one, mul-comm, mul-assoc, mul-left-comm, lt-of-mul-lt-mul-right, mul-lt-mul-of-pos-right, mul-pos}
+use native.Mathlib.Nat.{pow-succ', mul-le-mul-right, mul-comm, mul-left-comm, le-trans, le-of-eq, le-of-eq, le-of-suc-le-suc, not-le-of-lt, lt-of-not-le, zero-lt-suc, mul-one, mul-comm, mul-assoc, mul-left-comm, lt-of-mul-lt-mul-right, mul-lt-mul-of-pos-right, mul-pos}
 use native.Mathlib.Omega.{arith}
 use mathlib.Core.Bool.{Bool, true, false, _&&_}
 use lib.IntN.{ℤ, pos, negsuc}
@@ -92,3 +92,21 @@ rounds-below f y z a b d p n c t v D C r h =
     le-trans-float z (o .0) y
     (rounds-mono f z (o .0) p n c (plus y) (less y) (den y) C (den-pos y) r (o .1) w)
     (vals→le (o .0) y (plus y) (less y) (den y) (plus y) (less y) (den y) (den-pos y) (den-pos y) (o .2) (own-val y (v .0)) (le-of-eq refl))
+
+-- ---- from 2 ^ (prec - 1) up, either way, a value that the format holds has no fraction
+pub no-fraction : (f : Format) (x : Float) → T (finite x) → T (fits f x) → 2 ^ prec f * den x ≤ 2 * (plus x + less x) → (q : ℕ) × (r : ℕ) × Val x q r 1
+no-fraction f nan p t h = absurd p
+no-fraction f (inf s) p t h = absurd p
+no-fraction f (fin true m (pos k)) p t h = (0, m * 2 ^ k, (tt, omega arith))
+no-fraction f (fin false m (pos k)) p t h = (m * 2 ^ k, 0, (tt, omega arith))
+no-fraction f (fin s m (negsuc k)) p t h = absurd (never (2 ^ prec f) (fits-parts f s m (negsuc k) t .0) (size s h))
+  where
+    size : (s : Bool) → 2 ^ prec f * 2 ^ suc k ≤ 2 * (plus (fin s m (negsuc k)) + less (fin s m (negsuc k))) → 2 ^ prec f * 2 ^ suc k ≤ 2 * m
+    size true h = omega arith
+    size false h = omega arith
+
+    never : (w : ℕ) → m < w → w * 2 ^ suc k ≤ 2 * m → ⊥
+    never w a b =
+        let e : w * 2 ^ suc k ≡ 2 * (w * 2 ^ k) = ap (λ (z : ℕ). w * z) (pow-succ' 2 k) ∙ mul-left-comm w 2 (2 ^ k) in
+        let c : w * 1 ≤ w * 2 ^ k = le-trans (le-of-eq (mul-comm w 1)) (le-trans (mul-le-mul-right w (pow-pos k)) (le-of-eq (mul-comm (2 ^ k) w))) in
+        omega arith

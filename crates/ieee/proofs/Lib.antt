@@ -1,10 +1,13 @@
+pub mod Test
 pub mod Round
 pub mod Algebra
 pub mod Like
 pub mod Compare
 pub mod Order
+pub mod Magnitude
 pub mod Unique
 pub mod Rounds
+pub mod Cancel
 pub mod Held
 pub mod Exact
 pub mod Mono

@@ -1,19 +1,21 @@
 -- The order of finite values as an order of their fractions (plus - less) / den: one shape serves both signs and both zeros, so that a law about the order is a linear fact over ℕ.
 -- Assumes nothing.
 use mathlib.Core.Path.{_≡_, refl, sym, ap, subst}
-use mathlib.Core.Logic.{_⊎_, inl, inr}
+use mathlib.Core.Logic.{inl, inr}
 use Prim.Native.Nat.{ℕ, _+_, _*_, _≤_, _<_}
 use native.Mathlib.Nat.{le-of-eq, le-of-lt, le-antisymm, not-le-of-lt, lt-of-not-le, lt-irrefl, add-mul, mul-add, mul-comm, mul-assoc, mul-left-comm, mul-le-mul-right, le-of-mul-le-mul-right, mul-pos}
 use native.Mathlib.Omega.{arith}
 use mathlib.Core.Bool.{Bool, true, false, not, _&&_, _||_, cond}
 use lib.IntN.{pos}
 use lib.Dec.{T, T-not, ltb, eqb, eqb→eq, ltb→lt, lt→ltb, nltb→le}
-use lib.Ieee.{Float, nan, inf, fin, up, down, neg, le, lt}
+use lib.Ieee.{Float, nan, inf, fin, up, down, neg, le, lt, eq}
 use lib.Ieee.Fits.{and-l, and-r, and-i, eq→eqb}
 use lib.Ieee.Exact.{HasValue}
 use lib.Ieee.Scale.{finite}
 use lib.Ieee.Positive.{den, den-pos}
 use Rattle.ieee.specs.Fraction.{plus, less}
+use Rattle.ieee.proofs.Test.{or-split, or-right}
+use Rattle.ieee.proofs.Compare.{eq-swap}
 
 -- products multiplied out and put in one order, so that omega can take each for an unknown
 pub ruleset products = (add-mul, mul-add, mul-assoc, mul-comm, mul-left-comm)
@@ -23,10 +25,6 @@ abbrev pub Cross : Float → Float → Type 0
 Cross x y = plus x * den y + less y * den x ≤ plus y * den x + less x * den y
 
 -- ---- the order
-pub or-split : (a b : Bool) → T (a || b) → T a ⊎ T b
-or-split true b t = inl tt
-or-split false b t = inr t
-
 -- of two magnitudes with the same sign, the test that `le` is
 of-le : (a b a' b' : ℕ) → a ≤ b → (a ≡ b → a' ≡ b') → T (ltb a b || (eqb a' b' && true))
 of-le a b a' b' h e = go (ltb a b) (nltb→le a b)
@@ -288,3 +286,42 @@ pub neg-number : (x : Float) → T (number x) → T (number (neg x))
 unfolding neg
 neg-number (inf s) p = tt
 neg-number (fin s m e) p = tt
+
+-- ---- -l ≤ l, for an l from 0 up
+pub minus-le : (l : Float) → T (finite l) → T (le zero₀ l) → T (le (neg l) l)
+unfolding neg
+minus-le (fin true m e) p h =
+    let k = le→cross zero₀ (fin true m e) tt tt h in
+    let g = mul-le-mul-right (down e) k in
+    cross→le (fin false m e) (fin true m e) tt tt (omega arith)
+minus-le (fin false m e) p h = cross→le (fin true m e) (fin false m e) tt tt (omega arith)
+
+-- ---- what an order rules out
+pub not-below : (x y : Float) → T (finite x) → T (finite y) → T (le y x) → T (lt x y) → ⊥
+not-below x y p q h g = let a = le→cross y x q p h in let b = lt→cross x y p q g in lt-irrefl 0 (omega arith)
+
+-- ---- equal as numbers
+eq→le : (x y : Float) → T (eq x y) → T (le x y)
+unfolding le
+eq→le x y h = or-right (lt x y) (eq x y) h
+
+pub les→eq : (x y : Float) → T (finite x) → T (finite y) → T (le x y) → T (le y x) → T (eq x y)
+unfolding le
+les→eq x y p q h k = go (lt x y) (eq x y) (lt→cross x y p q) h
+  where
+    go : (a b : Bool) → (T a → plus x * den y + less y * den x < plus y * den x + less x * den y) → T (a || b) → T b
+    go false b g t = t
+    go true b g t = let u = g tt in let v = le→cross y x q p k in absurd (lt-irrefl 0 (omega arith))
+
+pub eq→cross : (x y : Float) → T (finite x) → T (finite y) → T (eq x y) → plus x * den y + less y * den x ≡ plus y * den x + less x * den y
+eq→cross x y p q h =
+    let a = le→cross x y p q (eq→le x y h) in
+    let b = le→cross y x q p (eq→le y x (subst T (eq-swap x y) h)) in
+    omega arith
+
+-- ---- the same difference, written in another way
+pub val-same : (x : Float) (p n c p' n' : ℕ) → p + n' ≡ p' + n → Val x p n c → Val x p' n' c
+val-same x p n c p' n' e v = (v .0, shift (plus x) (less x) (den x) (v .1))
+  where
+    shift : (P N d : ℕ) → P * c + n * d ≡ p * d + N * c → P * c + n' * d ≡ p' * d + N * c
+    shift P N d h = let g = ap (λ (z : ℕ). z * d) e in omega arith

@@ -3,7 +3,7 @@
 use mathlib.Core.Path.{_≡_, refl, sym, ap, _∙_, subst}
 use mathlib.Core.Logic.{_≢_, _⊎_, inl, inr}
 use Prim.Native.Nat.{ℕ, zero, suc, _+_, _*_, _^_, _%_, _<_}
-use native.Mathlib.Nat.{lt-irrefl, zero-lt-suc, mul-one, zero-mul, mul-assoc, mul-left-comm, mul-pos, pow-suc, pow-succ', eq-of-mul-eq-mul-right}
+use native.Mathlib.Nat.{le-of-eq, lt-irrefl, zero-lt-suc, mul-one, zero-mul, mul-assoc, mul-left-comm, mul-pos, pow-suc, pow-succ', eq-of-mul-eq-mul-right}
 use native.Mathlib.Omega.{arith}
 use mathlib.Core.Bool.{Bool, true, false, _&&_, _||_, Bool·beq}
 use lib.IntN.{ℤ, pos, negsuc}
@@ -12,9 +12,10 @@ use lib.Pow.{pow-add}
 use lib.Ieee.{Float, nan, inf, fin, Format, prec, emax, low, up, down, le, eq, isNan, fits}
 use lib.Ieee.Fits.{and-l, and-r, up-pos, down-pos}
 use lib.Ieee.Scale.{finite}
-use Rattle.ieee.specs.Alike.{Alike, sameNumber}
+use Rattle.ieee.specs.Alike.{plain, signed, Alike, sameNumber}
 use Rattle.ieee.proofs.Like.{like-refl, like-zero}
-use Rattle.ieee.proofs.Order.{or-split, le→cross}
+use Rattle.ieee.proofs.Test.{or-split}
+use Rattle.ieee.proofs.Order.{le→cross, Val, vals→le}
 
 -- ---- an odd number times a power of two shows both
 even-odd : (m t : ℕ) → m % 2 ≡ 1 → m ≡ 2 * t → ⊥
@@ -122,3 +123,21 @@ le-both f (fin true m e) (fin false n d) t u p q h k =
     let a = le→cross (fin false n d) (fin true m e) tt tt k in
     let z : m * up e * down d + n * up d * down e ≡ 0 = omega arith in
     level-alike f true false m n e d t u (omega arith) (λ w. absurd (w (omega arith)))
+
+-- ---- one fraction, one value, but for a zero's sign
+zero-fraction : (s : Bool) (e : ℤ) (p n c : ℕ) → Val (fin s zero e) p n c → p ≡ n
+zero-fraction true e p n c v = eq-of-mul-eq-mul-right (down e) (down-pos e) p n (let k = v .1 in let a = zero-mul (up e) in omega arith)
+zero-fraction false e p n c v = eq-of-mul-eq-mul-right (down e) (down-pos e) p n (let k = v .1 in let a = zero-mul (up e) in omega arith)
+
+pub same-data : (f : Format) (x y : Float) (p n c : ℕ) → 0 < c → T (fits f x) → T (fits f y) → Val x p n c → Val y p n c → (p ≡ n → x ≡ y) → x ≡ y
+unfolding plain signed
+same-data f nan y p n c C t u v w z = absurd (v .0)
+same-data f (inf s) y p n c C t u v w z = absurd (v .0)
+same-data f (fin s zero e) y p n c C t u v w z = z (zero-fraction s e p n c v)
+same-data f (fin s (suc m) e) nan p n c C t u v w z = absurd (w .0)
+same-data f (fin s (suc m) e) (inf r) p n c C t u v w z = absurd (w .0)
+same-data f (fin s (suc m) e) (fin r zero d) p n c C t u v w z = z (zero-fraction r d p n c w)
+same-data f (fin s (suc m) e) (fin r (suc k) d) p n c C t u v w z =
+    let x = fin s (suc m) e in
+    let y = fin r (suc k) d in
+    le-both f x y t u tt tt (vals→le x y p n c p n c C C v w (le-of-eq refl)) (vals→le y x p n c p n c C C w v (le-of-eq refl)) .same

@@ -1,0 +1,56 @@
+-- `numbers::whole::floor` meets its contract: from 2^52 up x is its own floor, and below that its floor is found from the whole number beside x. Assumes nothing.
+use lib.Dec.{T}
+use lib.Ieee.{Float, binary64, ofBits, neg, lt, fits}
+use Rattle.numbers.specs.Whole.{far}
+use Rattle.ieee.proofs.Test.{yes, no}
+use Rattle.numbers.proofs.Laws.Whole.{far-above, far-below}
+use Rattle.numbers.proofs.Laws.Nearby.{floor-same, floor-back, floor-down}
+use Rattle.numbers.proofs.whole.floor.Statement.{statement}
+use Rattle.numbers.proofs.whole.floor.Tie as tie
+
+-- what owning an `f64` tells: the format holds it
+held : (c : tie.Start) → T (fits binary64 (c .args .x))
+held c = yes (c .good .0 .1)
+
+-- the arm where |x| < 2^52
+abbrev x-of : tie.Then2 → Float
+x-of c = c .before .before .args .x
+
+held-in : (c : tie.Then2) → T (fits binary64 (x-of c))
+held-in c = held (c .before .before)
+
+above-in : (c : tie.Then2) → T (lt (neg far) (x-of c))
+unfolding ofBits neg
+above-in c = yes (c .before .if1 .taken)
+
+below-in : (c : tie.Then2) → T (lt (x-of c) far)
+unfolding ofBits
+below-in c = yes (c .if2 .taken)
+
+nearby-requires : tie.Need-nearby-requires
+nearby-requires c κs = (above-in c, below-in c)
+
+returns : tie.Need-returns
+returns c = let i = c .before .before in floor-same (x-of i) (held-in i) (above-in i) (below-in i) _ (c .before .nearby .ensures) (yes (c .if3 .taken))
+
+returns-2 : tie.Need-returns-2
+unfolding ofBits
+returns-2 c =
+    let i = c .before .before .before in
+    floor-back (x-of i) (held-in i) (above-in i) (below-in i) _ (c .before .before .nearby .ensures) (no (c .before .if3 .left)) (yes (c .if4 .taken))
+
+returns-3 : tie.Need-returns-3
+returns-3 c =
+    let i = c .before .before .before in
+    floor-down (x-of i) (held-in i) (above-in i) (below-in i) _ (c .before .before .nearby .ensures) (no (c .before .if3 .left)) (no (c .if4 .left))
+
+returns-4 : tie.Need-returns-4
+unfolding ofBits
+returns-4 c = far-above (c .before .before .args .x) (held (c .before .before)) (no (c .if2 .left))
+
+returns-5 : tie.Need-returns-5
+unfolding ofBits neg
+returns-5 c = far-below (c .before .args .x) (held (c .before)) (no (c .if1 .left))
+
+pub floor-spec : {M : Type 1} → statement M
+floor-spec = tie.close (tie.spec nearby-requires returns returns-2 returns-3 returns-4 returns-5)

@@ -1,0 +1,4 @@
+pub mod Denormal
+pub mod Whole
+pub mod Narrowing
+pub mod Range

@@ -1,0 +1,39 @@
+// The floor of an f64, which the source takes from `libm`.
+ghost use mathlib.Core.Path.{_≡_};
+ghost use lib.Dec.{T};
+ghost use lib.Ieee.{neg, lt};
+ghost use Rattle.numbers.specs.Whole.{floored, far, Beside};
+
+// The greatest whole number not above x. A NaN and an infinity come back as they are, and a zero
+// with its sign. From 2^52 up an f64 has no fraction; below that, 2^52 added and taken off again
+// leaves a whole number less than 1 away from x.
+pub fn floor(x: f64) -> f64
+    ensures { λ r. ⌜ r ≡ floored x ⌝ }
+{
+    if x > -4503599627370496.0 {
+        if x < 4503599627370496.0 {
+            let m = nearby(x);
+            if m == x {
+                return x;
+            }
+            if m > x {
+                return m - 1.0;
+            }
+            return m;
+        }
+    }
+    x
+}
+
+// One of the two whole numbers next to x, or x itself if it is whole, for |x| < 2^52.
+fn nearby(x: f64) -> f64
+    requires { ⌜ T (lt (neg far) x) ⌝ }
+    requires { ⌜ T (lt x far) ⌝ }
+    ensures { λ r. ⌜ Beside x r ⌝ }
+{
+    if x < 0.0 {
+        (x - 4503599627370496.0) + 4503599627370496.0
+    } else {
+        (x + 4503599627370496.0) - 4503599627370496.0
+    }
+}
