@@ -1,4 +1,5 @@
 pub mod Test
+pub mod Nan
 pub mod Round
 pub mod Algebra
 pub mod Like

@@ -1,0 +1,3 @@
+-- The laws of this crate's definitions and tests.
+pub mod Alike
+pub mod Spelling
