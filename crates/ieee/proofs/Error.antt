@@ -5,9 +5,8 @@ use mathlib.Core.Logic.{inl, inr}
 use Prim.Native.Nat.{ℕ, zero, suc, _+_, _-_, _*_, _/_, _%_, _^_, _≤_, _<_, compare, Ordering, Ordering·lt, Ordering·eq, Ordering·gt}
 use native.Mathlib.Nat.{le-of-eq, eq-or-lt-of-le, lt-of-le-of-lt, lt-of-lt-of-le, mul-pos, mul-assoc, mul-le-mul-right, lt-of-mul-lt-mul-right, mul-lt-mul-of-pos-right, eq-of-mul-eq-mul-right, one-mul, div-add-mod', mod-lt, div-lt-iff-lt-mul}
 use native.Mathlib.Omega.{arith}
-use mathlib.Core.Bool.{Bool, false, not}
-use lib.Arith.{lt-of-le-ne}
-use lib.Dec.{T, isLe, isEq, eqb, leb→le, nleb→lt, eqb→eq, eqb-refl}
+use mathlib.Core.Bool.{Bool, false}
+use lib.Dec.{T, leb→le}
 use lib.Pow.{pow-add, pow-pos, pow-mono, pow-lt}
 use lib.Ieee.{Float, nan, inf, fin, Format, binary32, binary64, up, down, prec, emax, low, size, nearest, round}
 use lib.Ieee.Digits.{size-le}
@@ -18,25 +17,13 @@ use lib.Ieee.Order.{drop, kept}
 use lib.Ieee.Scale.{finite, grid, overflow, round-val}
 use lib.Ieee.Positive.{den}
 use Rattle.ieee.specs.Fraction.{plus, less, Fraction, nothing, Within, own, halves}
+use Rattle.ieee.proofs.Test.{Compared, compared}
 use Rattle.ieee.proofs.Round.{round-neg}
 use Rattle.ieee.proofs.Order.{products, Val, has-val, neg-val}
 use Rattle.ieee.proofs.Rounds.{Rounds, high, deep}
 use Rattle.ieee.proofs.Apart.{within-coarser, within-finer}
 
 -- ---- the nearest whole number lies within a half
-abbrev Compared : Ordering → ℕ → ℕ → Type 0
-Compared Ordering·lt a b = a < b
-Compared Ordering·eq a b = a ≡ b
-Compared Ordering·gt a b = b < a
-
-compared : (a b : ℕ) → Compared (compare a b) a b
-compared a b = go (compare a b) (leb→le a b) (nleb→lt a b) (eqb→eq a b) (λ (e : a ≡ b). subst (λ (x : ℕ). T (eqb a x)) e (eqb-refl a))
-  where
-    go : (o : Ordering) → (T (isLe o) → a ≤ b) → (T (not (isLe o)) → b < a) → (T (isEq o) → a ≡ b) → (a ≡ b → T (isEq o)) → Compared o a b
-    go Ordering·lt h k e n = lt-of-le-ne (h tt) n
-    go Ordering·eq h k e n = e tt
-    go Ordering·gt h k e n = k tt
-
 closest-error : (a b : ℕ) → 0 < b → (2 * (closest a b * b) ≤ 2 * a + b) × (2 * a ≤ 2 * (closest a b * b) + b)
 closest-error a b B = go (compare (a % b * 2) b) (compared (a % b * 2) b)
   where

@@ -7,6 +7,7 @@ pub mod Compare
 pub mod Order
 pub mod Magnitude
 pub mod Unique
+pub mod Bits
 pub mod Rounds
 pub mod Cancel
 pub mod Held

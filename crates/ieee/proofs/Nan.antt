@@ -3,7 +3,7 @@ use mathlib.Core.Path.{_≡_, refl, sym, _∙_, subst}
 use mathlib.Core.Bool.{Bool, true, false, not}
 use Prim.Native.Nat.{ℕ, _*_, _%_, _<_, _≤_}
 use lib.Dec.{T}
-use lib.Ieee.{Float, nan, inf, fin, Format, isNan, ne, eq, hid, ones, top, ofBits, nanBits}
+use lib.Ieee.{Float, nan, inf, fin, Format, isNan, ne, hid, ones, top, ofBits, nanBits}
 use lib.Ieee.Bits.{nanBits-is, nanBits-above}
 use lib.Ieee.Compare.{differs-from-itself, nan-differs}
 use borrow.Author.Tests.{lt-ltb, le-ltb}

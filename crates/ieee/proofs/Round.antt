@@ -6,7 +6,7 @@ use native.Mathlib.Omega.{arith}
 use mathlib.Core.Bool.{Bool, true, false, not, cond}
 use lib.Dec.{T, ltb}
 use lib.IntN.{pos}
-use lib.Ieee.{Float, nan, inf, fin, Format, binary32, binary64, prec, emax, low, odd, units, round, neg}
+use lib.Ieee.{Float, nan, inf, fin, Format, binary32, binary64, prec, emax, low, odd, units, round, neg, isNan}
 use lib.Ieee.Scale.{round-same}
 
 pub odd-neg : (d : ℕ) (s : Bool) (q k l : ℕ) → odd d (not s) q k l ≡ neg (odd d s q k l)
@@ -56,3 +56,19 @@ units-nonneg f q k = go (ltb (q * 2 ^ k) (2 ^ (low f + suc (emax f))))
 pub round-nonneg : (f : Format) (a c : ℕ) → NonNeg (round f false a c)
 unfolding round
 round-nonneg f a c = units-nonneg f _ _
+
+-- ---- rounding gives a number
+nonneg-number : (v : Float) → NonNeg v → T (not (isNan v))
+unfolding isNan
+nonneg-number (inf s) h = tt
+nonneg-number (fin s m e) h = tt
+
+neg-number : (v : Float) → T (not (isNan v)) → T (not (isNan (neg v)))
+unfolding isNan neg
+neg-number nan h = h
+neg-number (inf s) h = tt
+neg-number (fin s m e) h = tt
+
+pub round-number : (f : Format) (s : Bool) (a c : ℕ) → T (not (isNan (round f s a c)))
+round-number f false a c = nonneg-number (round f false a c) (round-nonneg f a c)
+round-number f true a c = rw (round-neg f false a c) (neg-number (round f false a c) (nonneg-number (round f false a c) (round-nonneg f a c)))

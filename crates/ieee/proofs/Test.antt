@@ -1,9 +1,10 @@
--- What a test's answer says. Assumes nothing.
+-- What a test's answer says, and what the order of two numbers says. Assumes nothing.
 use mathlib.Core.Path.{_≡_, refl, sym, subst}
 use mathlib.Core.Logic.{_⊎_, inl, inr}
-use Prim.Native.Nat.{ℕ, _≤_, _<_}
+use Prim.Native.Nat.{ℕ, _≤_, _<_, compare, Ordering, Ordering·lt, Ordering·eq, Ordering·gt}
 use mathlib.Core.Bool.{Bool, true, false, not, _||_}
-use lib.Dec.{T, ltb, ltb→lt, nltb→le}
+use lib.Arith.{lt-of-le-ne}
+use lib.Dec.{T, ltb, eqb, isLe, isEq, ltb→lt, nltb→le, leb→le, nleb→lt, eqb→eq, eqb-refl}
 
 pub yes : {b : Bool} → b ≡ true → T b
 yes e = subst T (sym e) tt
@@ -33,3 +34,17 @@ order a b = go (ltb a b) (ltb→lt a b) (nltb→le a b)
     go : (t : Bool) → (T t → a < b) → (T (not t) → b ≤ a) → (a < b) ⊎ (b ≤ a)
     go true h k = inl (h tt)
     go false h k = inr (k tt)
+
+-- ---- what `compare` says
+abbrev pub Compared : Ordering → ℕ → ℕ → Type 0
+Compared Ordering·lt a b = a < b
+Compared Ordering·eq a b = a ≡ b
+Compared Ordering·gt a b = b < a
+
+pub compared : (a b : ℕ) → Compared (compare a b) a b
+compared a b = go (compare a b) (leb→le a b) (nleb→lt a b) (eqb→eq a b) (λ (e : a ≡ b). subst (λ (x : ℕ). T (eqb a x)) e (eqb-refl a))
+  where
+    go : (o : Ordering) → (T (isLe o) → a ≤ b) → (T (not (isLe o)) → b < a) → (T (isEq o) → a ≡ b) → (a ≡ b → T (isEq o)) → Compared o a b
+    go Ordering·lt h k e n = lt-of-le-ne (h tt) n
+    go Ordering·eq h k e n = e tt
+    go Ordering·gt h k e n = k tt

@@ -2,55 +2,44 @@
 -- So `Alike` is document 01's "equal as numbers, zeros alike, or if both are NaN". Assumes nothing.
 use mathlib.Core.Path.{_≡_, refl, sym, ap, _∙_, subst}
 use mathlib.Core.Logic.{_≢_, _⊎_, inl, inr}
-use Prim.Native.Nat.{ℕ, zero, suc, _+_, _*_, _^_, _%_, _<_}
-use native.Mathlib.Nat.{le-of-eq, lt-irrefl, zero-lt-suc, mul-one, zero-mul, mul-assoc, mul-left-comm, mul-pos, pow-suc, pow-succ', eq-of-mul-eq-mul-right}
+use Prim.Native.Nat.{_-_, _/_, ℕ, zero, suc, _+_, _*_, _^_, _<_}
+use native.Mathlib.Nat.{le-antisymm, mul-right-comm, le-of-eq, lt-irrefl, zero-lt-suc, zero-mul, mul-pos, eq-of-mul-eq-mul-right}
 use native.Mathlib.Omega.{arith}
-use mathlib.Core.Bool.{Bool, true, false, _&&_, _||_, Bool·beq}
-use lib.IntN.{ℤ, pos, negsuc}
-use lib.Dec.{T, ltb, leb, eqb, eqb→eq}
-use lib.Pow.{pow-add}
-use lib.Ieee.{Float, nan, inf, fin, Format, prec, emax, low, up, down, le, eq, isNan, fits}
+use mathlib.Core.Bool.{cond, Bool, true, false, _&&_, _||_, Bool·beq}
+use lib.IntN.{ℤ}
+use lib.Dec.{T, eqb, eqb→eq}
+use lib.Ieee.{Float, nan, inf, fin, Format, prec, low, up, down, size, le, eq, isNan, fits, hid, top, ofBits, toBits}
 use lib.Ieee.Fits.{and-l, and-r, up-pos, down-pos}
+use lib.Ieee.Exact.{HasValue}
+use lib.Ieee.Nearest.{div-same}
+use lib.Ieee.Order.{transfer}
+use lib.Ieee.Bits.{ofBits-toBits}
 use lib.Ieee.Scale.{finite}
 use Rattle.ieee.specs.Alike.{plain, signed, Alike, sameNumber}
-use Rattle.ieee.proofs.Like.{like-refl, like-zero}
+use Rattle.ieee.proofs.Like.{like-refl, like-of-eq, like-zero}
 use Rattle.ieee.proofs.Test.{or-split}
 use Rattle.ieee.proofs.Order.{le→cross, Val, vals→le}
 
--- ---- an odd number times a power of two shows both
-even-odd : (m t : ℕ) → m % 2 ≡ 1 → m ≡ 2 * t → ⊥
-even-odd m t o h = omega arith
+-- ---- two values that the format holds, and that are the same number with the same sign, are one
+bits-same : (f : Format) (s : Bool) (m n : ℕ) (e d : ℤ) → m * up e * down d ≡ n * up d * down e → toBits f (fin s m e) ≡ toBits f (fin s n d)
+unfolding toBits
+bits-same f s m n e d h =
+    ap (λ (z : ℕ). cond s (top f) 0 + (size z - prec f) * hid f + z / 2 ^ (size z - prec f))
+    (div-same (m * up e * 2 ^ low f) (down e) (n * up d * 2 ^ low f) (down d) (down-pos e) (down-pos d)
+    (mul-right-comm (m * up e) (2 ^ low f) (down d) ∙ ap (λ (z : ℕ). z * 2 ^ low f) h ∙ mul-right-comm (n * up d) (down e) (2 ^ low f)))
 
-odd-power : (m n a b : ℕ) → m % 2 ≡ 1 → n % 2 ≡ 1 → m * 2 ^ a ≡ n * 2 ^ b → (m ≡ n) × (a ≡ b)
-odd-power m n zero zero o p h = (sym (mul-one m) ∙ h ∙ mul-one n, refl)
-odd-power m n zero (suc b) o p h = absurd (even-odd m (n * 2 ^ b) o (sym (mul-one m) ∙ h ∙ ap (λ (x : ℕ). n * x) (pow-succ' 2 b) ∙ mul-left-comm n 2 (2 ^ b)))
-odd-power m n (suc a) zero o p h = absurd (even-odd n (m * 2 ^ a) p (sym (mul-one n) ∙ sym h ∙ ap (λ (x : ℕ). m * x) (pow-succ' 2 a) ∙ mul-left-comm m 2 (2 ^ a)))
-odd-power m n (suc a) (suc b) o p h =
-    let r = odd-power m n a b o p (eq-of-mul-eq-mul-right 2 (zero-lt-suc 1) (m * 2 ^ a) (n * 2 ^ b)
-    (mul-assoc m (2 ^ a) 2 ∙ ap (λ (x : ℕ). m * x) (sym (pow-suc 2 a)) ∙ h ∙ ap (λ (x : ℕ). n * x) (pow-suc 2 b) ∙ sym (mul-assoc n (2 ^ b) 2))) in
-    (r .0, ap suc (r .1))
-
--- the same for exponents of either sign
-same-digits : (m n : ℕ) (e d : ℤ) → m % 2 ≡ 1 → n % 2 ≡ 1 → m * up e * down d ≡ n * up d * down e → (m ≡ n) × (e ≡ d)
-same-digits m n (pos a) (pos b) o p h = let r = odd-power m n a b o p (omega arith) in (r .0, ap pos (r .1))
-same-digits m n (pos a) (negsuc b) o p h =
-    let r = odd-power m n (a + suc b) 0 o p (ap (λ (z : ℕ). m * z) (pow-add 2 a (suc b)) ∙ sym (mul-assoc m (2 ^ a) (2 ^ suc b)) ∙ h ∙ mul-one (n * 1)) in
-    absurd (omega (arith, r .1))
-same-digits m n (negsuc a) (pos b) o p h =
-    let r = odd-power n m (b + suc a) 0 p o (ap (λ (z : ℕ). n * z) (pow-add 2 b (suc a)) ∙ sym (mul-assoc n (2 ^ b) (2 ^ suc a)) ∙ sym h ∙ mul-one (m * 1)) in
-    absurd (omega (arith, r .1))
-same-digits m n (negsuc a) (negsuc b) o p h =
-    let r = odd-power m n (suc b) (suc a) o p (ap (λ (z : ℕ). z * 2 ^ suc b) (sym (mul-one m)) ∙ h ∙ ap (λ (z : ℕ). z * 2 ^ suc a) (mul-one n)) in
-    (r .0, ap negsuc (let g : a ≡ b = omega (arith, r .1) in g))
-
-fits-odd : (f : Format) (s : Bool) (m : ℕ) (e : ℤ) → T (fits f (fin s (suc m) e)) → suc m % 2 ≡ 1
-unfolding fits
-fits-odd f s m e t =
-    let A = eqb (suc m % 2) 1 in
-    let B = ltb (suc m) (2 ^ prec f) in
-    let C = leb (down e) (2 ^ low f) in
-    let D = ltb (suc m * up e) (2 ^ suc (emax f) * down e) in
-    eqb→eq (suc m % 2) 1 (and-l A B (and-l (A && B) C (and-l (A && B && C) D t)))
+pub value-unique : (f : Format) (x y : Float) (s : Bool) (a c b d : ℕ) → 0 < c → 0 < d → T (fits f x) → T (fits f y) → HasValue x s a c → HasValue y s b d → a * d ≡ b * c → x ≡ y
+value-unique f (fin t m e) (fin u n g) s a c b d C D p q h k r =
+    sym (ofBits-toBits f (fin t m e) p)
+    ∙ ap (λ (z : Bool). ofBits f (toBits f (fin z m e))) (h .0)
+    ∙ ap (ofBits f) (bits-same f s m n e g cross)
+    ∙ ap (λ (z : Bool). ofBits f (toBits f (fin z n g))) (sym (k .0))
+    ∙ ofBits-toBits f (fin u n g) q
+  where
+    cross : m * up e * down g ≡ n * up g * down e
+    cross =
+        le-antisymm (transfer (m * up e) (n * up g) (down e) (down g) a b c d C D (h .1) (k .1) (le-of-eq r))
+        (transfer (n * up g) (m * up e) (down g) (down e) b a d c D C (k .1) (h .1) (le-of-eq (sym r)))
 
 -- ---- equal magnitudes
 none-left : (n : ℕ) (u v : ℕ) → 0 < u → 0 < v → 0 ≡ suc n * u * v → ⊥
@@ -61,9 +50,8 @@ level-alike f s t zero zero e d p q h g = like-zero false s t e d
 level-alike f s t zero (suc n) e d p q h g = absurd (none-left n (up d) (down e) (up-pos d) (down-pos e) (sym (simp zero-mul) ∙ h))
 level-alike f s t (suc m) zero e d p q h g = absurd (none-left m (up e) (down d) (up-pos e) (down-pos d) (sym (simp zero-mul) ∙ sym h))
 level-alike f s t (suc m) (suc n) e d p q h g =
-    let r = same-digits (suc m) (suc n) e d (fits-odd f s m e p) (fits-odd f t n d q) h in
-    let w : s ≡ t = g (λ z. none-left m (up e) (down d) (up-pos e) (down-pos d) (sym z)) in
-    subst (λ (z : Float). Alike (fin s (suc m) e) z) (λ i. fin (w i) (r .0 i) (r .1 i)) (like-refl (fin s (suc m) e))
+    let w : t ≡ s = sym (g (λ z. none-left m (up e) (down d) (up-pos e) (down-pos d) (sym z))) in
+    like-of-eq (value-unique f (fin s (suc m) e) (fin t (suc n) d) s (suc m * up e) (down e) (suc n * up d) (down d) (down-pos e) (down-pos d) p q (refl, refl) (w, refl) h)
 
 -- ---- from equality as numbers to `Alike`
 beq-same : (s t : Bool) → T (Bool·beq s t) → s ≡ t

@@ -4,3 +4,7 @@ pub mod Whole
 pub mod Part
 pub mod Nearby
 pub mod Range
+pub mod Narrowing
+pub mod Shifting
+pub mod Places
+pub mod Widening

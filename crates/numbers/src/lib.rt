@@ -1,12 +1,17 @@
-// Numbers, from num.rs: flushing, floor, limits and finiteness.
+// Numbers, from num.rs: flushing; and what document 01 adds: floor, narrowing, widening, limits and
+// finiteness.
 mod denormal;
+mod narrowing;
 mod range;
 mod whole;
+mod widening;
 
 pub use denormal::flush_denormal;
 pub use denormal::flush_denormal_f64;
+pub use narrowing::narrow;
 pub use range::is_finite_f32;
 pub use range::is_finite_f64;
 pub use range::limit_f32;
 pub use range::limit_f64;
 pub use whole::floor;
+pub use widening::widen;

@@ -1,0 +1,59 @@
+// Narrowing an f64 to an f32 by bits, which the source writes `as f32`.
+ghost use mathlib.Core.Path.{_≡_};
+ghost use mathlib.Core.Bool.{cond};
+ghost use Prim.Native.Nat.{_+_, _*_, _^_, _<_, _≤_};
+ghost use lib.Ieee.{binary32, binary64, ofBits};
+ghost use lib.Ieee.Nearest.{closest};
+ghost use Rattle.numbers.specs.Narrowing.{narrowed};
+
+// The f32 nearest to x, ties to even, an infinity where x is too large. A zero keeps its sign, and a
+// NaN stays one.
+pub fn narrow(x: f64) -> f32
+    ensures { λ r. ⌜ r ≡ narrowed x ⌝ }
+{
+    if x != x {
+        return 0.0f32 / 0.0f32;
+    }
+    let bits = f64::to_bits(x);
+    let sign = bits / 9223372036854775808;
+    let size = narrow_bits(bits % 9223372036854775808);
+    f32::from_bits((sign * 2147483648 + size) as u32)
+}
+
+// The bits of the f32 nearest to the f64 with these, which have no sign. From 2^-126 (field 897) to
+// below 2^128 (field 1151) an f32 keeps 24 of the 53 digits; its field is 896 less, and a carry out
+// of the digits goes into it. Below that the last place kept is 2^-149, so that fewer are kept, and
+// none of a number below half that place (field 873).
+fn narrow_bits(size: u64) -> u64
+    requires { ⌜ size ≤ 2047 * 2 ^ 52 ⌝ }
+    ensures { λ r. ⌜ ofBits binary32 r ≡ narrowed (ofBits binary64 size) ⌝ }
+    ensures { λ r. ⌜ r < 2 ^ 31 ⌝ }
+{
+    let field = size / 4503599627370496;
+    let digits = 4503599627370496 + size % 4503599627370496;
+    if field < 873 {
+        0
+    } else if field < 897 {
+        shifted(digits, false, 925 - field)
+    } else if field < 1151 {
+        (field - 897) * 8388608 + shifted(digits, false, 28)
+    } else {
+        2139095040
+    }
+}
+
+// i / 2^(places + 1) to the nearest whole number, ties to even, where `lost` adds a half to i. It
+// calls itself for each place shifted out but the last, which rounds, and `lost` says whether one of
+// them was a one. The last place is as good as random, so that no branch turns on it: a tie goes up
+// where i % 4 is 3.
+fn shifted(i: u64, lost: bool, places: u64) -> u64
+    ensures { λ r. ⌜ r ≡ closest (i * 2 + cond lost 1 0) (2 ^ (places + 2)) ⌝ }
+{
+    if places > 0 {
+        shifted(i / 2, lost || i % 2 == 1, places - 1)
+    } else if lost {
+        i / 2 + i % 2
+    } else {
+        i / 2 + i % 4 / 3
+    }
+}
