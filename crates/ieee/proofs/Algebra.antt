@@ -144,6 +144,6 @@ pub sub-is : (f : Format) (x y : Float) → sub f x y ≡ add f x (neg y)
 unfolding sub
 sub-is f x y = refl
 
--- -x - (-y) is y - x, to the sign of a zero
+-- -x - (-y) is y - x
 pub sub-negs : (f : Format) (x y : Float) → sub f (neg x) (neg y) ≡ sub f y x
 sub-negs f x y = cc (sub-neg f (neg x) y, add-swap f (neg x) y, sub-is f y x)

@@ -60,7 +60,7 @@ on-grid f s m (negsuc k) a b c =
     round-exact f s (m * 1) (2 ^ i) m j (pow-pos i) a
     (lt-of-mul-lt-mul-right (2 ^ i)
     (subst (λ (z : ℕ). z < 2 ^ (l + suc (emax f)) * 2 ^ i) (ap (λ (z : ℕ). m * 1 * z) W ∙ simp (mul-one, mul-assoc))
-    (subst (λ (z : ℕ). m * 1 * 2 ^ l < z) (simp (pow-add, mul-comm, mul-assoc, mul-left-comm)) (mul-lt-mul-of-pos-right c (pow-pos l)))))
+    (subst (λ (z : ℕ). m * 1 * 2 ^ l < z) (simp (pow-add, mul-comm, mul-left-comm)) (mul-lt-mul-of-pos-right c (pow-pos l)))))
     (ap (λ (z : ℕ). m * 1 * z) W ∙ simp (mul-one, mul-assoc))
 
 -- x's own fraction, rounded

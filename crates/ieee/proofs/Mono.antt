@@ -1,16 +1,16 @@
 -- Monotone rounding for all signs: a sum grows with each term, a product with a factor if the other is not negative.
 -- Assumes nothing.
 use mathlib.Core.Path.{_≡_}
-use Prim.Native.Nat.{ℕ, _+_, _*_, _≤_, _<_}
+use Prim.Native.Nat.{ℕ, _+_, _*_, _≤_}
 use native.Mathlib.Nat.{zero-mul, mul-zero, add-zero, mul-comm, mul-assoc, mul-left-comm, mul-le-mul, mul-le-mul-right, mul-pos}
 use native.Mathlib.Omega.{arith}
 use lib.Dec.{T}
-use lib.Ieee.{Float, Format, add, sub, mul, div, neg, le}
+use lib.Ieee.{Float, Format, add, sub, mul, div, neg, le, lt}
 use lib.Ieee.Scale.{finite}
 use lib.Ieee.Positive.{den, den-pos}
 use Rattle.ieee.specs.Fraction.{plus, less}
 use Rattle.ieee.proofs.Algebra.{mul-swap, sub-is}
-use Rattle.ieee.proofs.Order.{products, zero₀, less-none, le→cross, le-trans-float, neg-le, neg-finite}
+use Rattle.ieee.proofs.Order.{products, zero₀, less-none, plus-some, le→cross, le-trans-float, neg-le, neg-finite}
 use Rattle.ieee.proofs.Rounds.{rounds-mono, add-rounds, mul-rounds, div-rounds}
 
 -- ---- the operations keep the order; a result may overflow to an infinity
@@ -51,14 +51,16 @@ mul-mono f x x' y y' p p' q q' z u h k =
 quotient-grows : (P N d P' N' d' Q O b Q' O' b' : ℕ) → N ≡ 0 → N' ≡ 0 → O ≡ 0 → O' ≡ 0 → P * d' + N' * d ≤ P' * d + N * d' → Q' * b + O * b' ≤ Q * b' + O' * b
     → P * b * (Q' * d') + N' * b' * (Q * d) ≤ P' * b' * (Q * d) + N * b * (Q' * d')
 quotient-grows P N d P' N' d' Q O b Q' O' b' n n' o o' h k =
-    let g = simp (mul-assoc, mul-comm, mul-left-comm) at (mul-le-mul (flat P N d P' N' d' n n' h) (flat Q' O' b' Q O b o' o k)) in
+    let g = simp (mul-assoc, mul-comm) at (mul-le-mul (flat P N d P' N' d' n n' h) (flat Q' O' b' Q O b o' o k)) in
     simp (n, n', zero-mul, add-zero, mul-assoc, mul-comm, mul-left-comm) (omega arith)
   where
     flat : (P N d P' N' d' : ℕ) → N ≡ 0 → N' ≡ 0 → P * d' + N' * d ≤ P' * d + N * d' → P * d' ≤ P' * d
     flat P N d P' N' d' n n' h = let g = simp (n, n', zero-mul, add-zero) at h in omega arith
 
 -- a quotient of values from 0 up grows with the dividend and falls with the divisor
-pub div-mono : (f : Format) (x x' y y' : Float) → T (finite x) → T (finite x') → T (finite y) → T (finite y') → T (le zero₀ x) → T (le zero₀ x') → 0 < plus y → 0 < plus y' → less y ≡ 0 → less y' ≡ 0 → T (le x x') → T (le y' y) → T (le (div f x y) (div f x' y'))
-div-mono f x x' y y' p p' q q' z z' a a' b b' h k =
-    rounds-mono f (div f x y) (div f x' y') _ _ _ _ _ _ (mul-pos a (den-pos x)) (mul-pos a' (den-pos x')) (div-rounds f x y p q a) (div-rounds f x' y' p' q' a')
-    (quotient-grows (plus x) (less x) (den x) (plus x') (less x') (den x') (plus y) (less y) (den y) (plus y') (less y') (den y') (less-none x p z) (less-none x' p' z') b b' (le→cross x x' p p' h) (le→cross y' y q' q k))
+pub div-mono : (f : Format) (x x' y y' : Float) → T (finite x) → T (finite x') → T (finite y) → T (finite y') → T (le zero₀ x) → T (le zero₀ x') → T (lt zero₀ y) → T (lt zero₀ y') → T (le x x') → T (le y' y) → T (le (div f x y) (div f x' y'))
+div-mono f x x' y y' p p' q q' z z' u u' h k =
+    let a = plus-some y q u in
+    let a' = plus-some y' q' u' in
+    rounds-mono f (div f x y) (div f x' y') _ _ _ _ _ _ (mul-pos (a .0) (den-pos x)) (mul-pos (a' .0) (den-pos x')) (div-rounds f x y p q (a .0)) (div-rounds f x' y' p' q' (a' .0))
+    (quotient-grows (plus x) (less x) (den x) (plus x') (less x') (den x') (plus y) (less y) (den y) (plus y') (less y') (den y') (less-none x p z) (less-none x' p' z') (a .1) (a' .1) (le→cross x x' p p' h) (le→cross y' y q' q k))

@@ -143,6 +143,11 @@ pub less-none : (x : Float) → T (finite x) → T (le zero₀ x) → less x ≡
 less-none (fin false m e) p h = refl
 less-none (fin true m e) p h = let k = le→cross zero₀ (fin true m e) tt p h in omega arith
 
+-- and one above 0 has something to add
+pub plus-some : (x : Float) → T (finite x) → T (lt zero₀ x) → (0 < plus x) × (less x ≡ 0)
+plus-some (fin false m e) p h = let k = lt→cross zero₀ (fin false m e) tt p h in (omega arith, refl)
+plus-some (fin true m e) p h = let k = lt→cross zero₀ (fin true m e) tt p h in (omega arith, omega arith)
+
 -- ---- x is (p - n) / c, for a c above 0
 abbrev pub Val : Float → ℕ → ℕ → ℕ → Type 0
 Val x p n c = T (finite x) × (plus x * c + n * den x ≡ p * den x + less x * c)
