@@ -3,25 +3,28 @@
 use mathlib.Core.Path.{_≡_, refl, sym, ap, _∙_, subst}
 use mathlib.Core.Logic.{inl, inr}
 use Prim.Native.Nat.{ℕ, zero, suc, _+_, _-_, _*_, _^_, _≤_, _<_}
-use native.Mathlib.Nat.{eq-of-mul-eq-mul-right, zero-lt-suc, add-mul, mul-one, one-mul, mul-zero, mul-suc, add-zero, zero-add, mul-assoc, mul-right-comm, mul-pos, pow-suc, pow-succ', mul-lt-mul-of-pos-right, lt-of-mul-lt-mul-right, le-trans, le-of-eq}
+use native.Mathlib.Nat.{sub-zero, zero-mul, eq-of-mul-eq-mul-right, zero-lt-suc, add-mul, mul-one, one-mul, mul-zero, mul-suc, add-zero, zero-add, mul-assoc, mul-right-comm, mul-pos, pow-suc, pow-succ', mul-lt-mul-of-pos-right, lt-of-mul-lt-mul-right, le-trans, le-of-eq}
 use native.Mathlib.Omega.{arith}
 use mathlib.Core.Bool.{Bool, true, false}
 use lib.IntN.{ℤ, pos, negsuc}
-use lib.Dec.{T}
-use lib.Ieee.{Float, nan, inf, fin, Format, prec, emax, low, up, down, round, mul, fits}
+use lib.Dec.{T, ltb, ltb→lt, not-T}
+use lib.Ieee.{Float, nan, inf, fin, Format, prec, emax, low, up, down, round, sum, sub, mul, fits}
 use lib.Ieee.Fits.{down-pos, round-fits}
 use lib.Ieee.Back.{round-whole}
 use lib.Ieee.Exact.{HasValue}
+use lib.Ieee.Bits.{is-false}
 use lib.Ieee.Scale.{finite, round-same}
 use lib.Ieee.Positive.{den, den-pos}
+use Rattle.ieee.specs.Constants.{zero₀, half₀, two₀}
 use Rattle.ieee.specs.Alike.{Alike}
 use Rattle.ieee.specs.Fraction.{plus, less}
 use Rattle.ieee.proofs.Round.{round-zero}
+use Rattle.ieee.proofs.Like.{add-fin}
 use Rattle.ieee.proofs.Test.{order}
 use Rattle.ieee.proofs.Order.{val-same, Val, has-val, between}
 use Rattle.ieee.proofs.Rounds.{Rounds, high, deep, rounds-same, mul-rounds}
 use Rattle.ieee.proofs.Held.{fits-parts, on-grid, rounds-above, rounds-below}
-use Rattle.ieee.proofs.Unique.{le-both}
+use Rattle.ieee.proofs.Unique.{le-both, value-unique}
 
 -- ---- a result that the format holds is not rounded
 rounds-fits : (f : Format) (z : Float) (p n c : ℕ) → Rounds f z p n c → T (fits f z)
@@ -83,6 +86,24 @@ same-value (fin t m e) s a c b d C h v = (v .0, eq-of-mul-eq-mul-right c C (m * 
 -- another fraction of the same value
 pub exact-same : (f : Format) (a c b d : ℕ) → 0 < c → 0 < d → a * d ≡ b * c → Exact f a c → Exact f b d
 exact-same f a c b d C D h g s = same-value (round f s b d) s a c b d C h (subst (λ (x : Float). HasValue x s a c) (round-same f s a c b d C D h) (g s))
+
+-- ---- a value that the format holds is its own rounding, as data
+pub round-own : (f : Format) (s : Bool) (m : ℕ) (e : ℤ) → T (fits f (fin s m e)) → round f s (m * up e) (down e) ≡ fin s m e
+round-own f s m e t =
+    let k = fits-parts f s m e t in
+    value-unique f (round f s (m * up e) (down e)) (fin s m e) s (m * up e) (down e) (m * up e) (down e) (down-pos e) (down-pos e)
+    (round-fits f s (m * up e) (down e)) t (on-grid f s m e (k .0) (k .1) (k .2)) (refl, refl) refl
+
+none-off : (f : Format) (s : Bool) (a c : ℕ) → sum f s (a * 1) true 0 (c * 1) ≡ round f s a c
+unfolding sum
+none-off f true a c = rw (mul-one a, mul-one c, add-zero a)
+none-off f false a c = rw (mul-one a, mul-one c, sub-zero a, is-false (ltb a 0) (not-T (ltb a 0) (λ t. omega (arith, ltb→lt a 0 t))))
+
+-- x - 0 is x, a zero with its sign included
+pub minus-zero : (f : Format) (x : Float) → T (fits f x) → sub f x zero₀ ≡ x
+minus-zero f nan t = unfold sub in refl
+minus-zero f (inf s) t = unfold sub in refl
+minus-zero f (fin s m e) t = unfold sub in rw (add-fin f s true m 0 e (pos 0), zero-mul (down e)) (none-off f s (m * up e) (down e) ∙ round-own f s m e t)
 
 -- ---- the half and the double of m * 2 ^ e
 lower : ℤ → ℤ
@@ -156,12 +177,6 @@ other-sided f z p n c C h g r =
     rounds-exact f z p n c
     (λ k. subst (λ (w : ℕ). Exact f w c) (omega arith) g)
     (λ k. subst (λ (w : ℕ). Exact f w c) (omega arith) (zero-exact f c C)) r
-
-abbrev pub half₀ : Float
-half₀ = fin false 1 (negsuc 0)
-
-abbrev pub two₀ : Float
-two₀ = fin false 1 (pos 1)
 
 half-rounds : (f : Format) (x : Float) → T (finite x) → Rounds f (mul f x half₀) (plus x) (less x) (den x * 2)
 half-rounds f x p =

@@ -9,9 +9,10 @@ use lib.Dec.{T}
 use lib.Ieee.{Float, nan, inf, fin, neg, lt}
 use lib.Ieee.Bits.{is-true}
 use lib.Ieee.Positive.{den, den-pos}
+use Rattle.ieee.specs.Constants.{zero₀}
 use Rattle.ieee.specs.Fraction.{plus, less}
 use Rattle.ieee.specs.Magnitude.{magnitude}
-use Rattle.ieee.proofs.Order.{zero₀, lt→cross, cross→lt}
+use Rattle.ieee.proofs.Order.{lt→cross, cross→lt}
 use Rattle.ieee.proofs.Compare.{lt-negs}
 
 -- what has a minus sign lies below every t above 0

@@ -8,9 +8,10 @@ use lib.Dec.{T}
 use lib.Ieee.{Float, Format, add, sub, mul, div, neg, le, lt}
 use lib.Ieee.Scale.{finite}
 use lib.Ieee.Positive.{den, den-pos}
+use Rattle.ieee.specs.Constants.{zero₀}
 use Rattle.ieee.specs.Fraction.{plus, less}
 use Rattle.ieee.proofs.Algebra.{mul-swap, sub-is}
-use Rattle.ieee.proofs.Order.{products, zero₀, less-none, plus-some, le→cross, le-trans-float, neg-le, neg-finite}
+use Rattle.ieee.proofs.Order.{products, less-none, plus-some, le→cross, le-trans-float, neg-le, neg-finite}
 use Rattle.ieee.proofs.Rounds.{rounds-mono, add-rounds, mul-rounds, div-rounds}
 
 -- ---- the operations keep the order; a result may overflow to an infinity

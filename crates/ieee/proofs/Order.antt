@@ -6,13 +6,13 @@ use Prim.Native.Nat.{ℕ, _+_, _*_, _≤_, _<_}
 use native.Mathlib.Nat.{le-of-eq, le-of-lt, le-antisymm, not-le-of-lt, lt-of-not-le, lt-irrefl, add-mul, mul-add, mul-comm, mul-assoc, mul-left-comm, mul-le-mul-right, le-of-mul-le-mul-right, mul-pos}
 use native.Mathlib.Omega.{arith}
 use mathlib.Core.Bool.{Bool, true, false, not, _&&_, _||_, cond}
-use lib.IntN.{pos}
 use lib.Dec.{T, T-not, ltb, eqb, eqb→eq, ltb→lt, lt→ltb, nltb→le}
 use lib.Ieee.{Float, nan, inf, fin, up, down, neg, le, lt, eq}
 use lib.Ieee.Fits.{and-l, and-r, and-i, eq→eqb}
 use lib.Ieee.Exact.{HasValue}
 use lib.Ieee.Scale.{finite}
 use lib.Ieee.Positive.{den, den-pos}
+use Rattle.ieee.specs.Constants.{zero₀}
 use Rattle.ieee.specs.Fraction.{plus, less}
 use Rattle.ieee.proofs.Test.{or-split, or-right}
 use Rattle.ieee.proofs.Compare.{eq-swap}
@@ -132,13 +132,7 @@ finite-number nan p = p
 finite-number (inf s) p = tt
 finite-number (fin s m e) p = tt
 
--- ---- 0 and 1; a value from 0 up has nothing to take off, a zero with a minus sign included
-abbrev pub zero₀ : Float
-zero₀ = fin false 0 (pos 0)
-
-abbrev pub one₀ : Float
-one₀ = fin false 1 (pos 0)
-
+-- ---- a value from 0 up has nothing to take off, a zero with a minus sign included
 pub less-none : (x : Float) → T (finite x) → T (le zero₀ x) → less x ≡ 0
 less-none (fin false m e) p h = refl
 less-none (fin true m e) p h = let k = le→cross zero₀ (fin true m e) tt p h in omega arith

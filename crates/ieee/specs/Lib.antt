@@ -1,3 +1,4 @@
+pub mod Constants
 pub mod Alike
-pub mod Fraction
 pub mod Magnitude
+pub mod Fraction

@@ -1,7 +1,9 @@
 // The floor of an f64, which the source takes from `libm`.
 ghost use mathlib.Core.Path.{_≡_};
+ghost use mathlib.Core.Bool.{cond};
 ghost use lib.Dec.{T};
 ghost use lib.Ieee.{neg, lt};
+ghost use Rattle.ieee.specs.Constants.{zero₀, one₀};
 ghost use Rattle.numbers.specs.Whole.{floored, far, Beside};
 
 // The greatest whole number not above x. A NaN and an infinity come back as they are, and a zero
@@ -16,10 +18,7 @@ pub fn floor(x: f64) -> f64
             if m == x {
                 return x;
             }
-            if m > x {
-                return m - 1.0;
-            }
-            return m;
+            return m - above(m, x);
         }
     }
     x
@@ -36,4 +35,12 @@ fn nearby(x: f64) -> f64
     } else {
         (x + 4503599627370496.0) - 4503599627370496.0
     }
+}
+
+// 1 where m lies above x, else 0. Whether it does is as good as random, so that no branch turns on
+// it: this is a choice between two numbers.
+fn above(m: f64, x: f64) -> f64
+    ensures { λ r. ⌜ r ≡ cond (lt x m) one₀ zero₀ ⌝ }
+{
+    if m > x { 1.0 } else { 0.0 }
 }

@@ -6,8 +6,8 @@ use mathlib.Core.Bool.{Bool, true, false, _&&_, cond}
 use lib.Dec.{T}
 use lib.Ieee.{Float, Format, binary32, binary64, round, neg, le, lt}
 use lib.Ieee.Scale.{finite}
+use Rattle.ieee.specs.Constants.{zero₀}
 use Rattle.ieee.specs.Magnitude.{magnitude}
-use Rattle.ieee.proofs.Order.{zero₀}
 use Rattle.numbers.specs.Denormal.{tiny, flushed}
 use Rattle.ieee.proofs.Magnitude.{magnitude-lt}
 

@@ -11,15 +11,15 @@ use lib.Ieee.Fits.{down-pos, round-fits, nan-fits, inf-fits}
 use lib.Ieee.Exact.{HasValue}
 use lib.Ieee.Scale.{finite, round-same}
 use lib.Ieee.Positive.{den, den-pos}
+use Rattle.ieee.specs.Constants.{zero₀, one₀}
 use Rattle.ieee.specs.Alike.{plain, signed, Like}
 use Rattle.ieee.specs.Fraction.{plus, less}
-use Rattle.ieee.proofs.Held.{fits-parts, on-grid}
-use Rattle.ieee.proofs.Order.{le→cross, zero₀, one₀, between}
+use Rattle.ieee.proofs.Order.{le→cross, between}
+use Rattle.ieee.proofs.Exact.{round-own}
 use Rattle.ieee.proofs.Round.{round-neg, round-zero, round-number}
 use Rattle.ieee.proofs.Rounds.{Rounds, at-high, at-deep, rounds-mono}
 use Rattle.numbers.specs.Narrowing.{narrowed}
 use Rattle.ieee.proofs.Bits.{withSign}
-use Rattle.ieee.proofs.Unique.{value-unique}
 
 -- ---- only the value counts
 pub narrow-value : (x : Float) (s : Bool) (a c : ℕ) → 0 < c → HasValue x s a c → narrowed x ≡ round binary32 s a c
@@ -37,10 +37,7 @@ pub narrow-exact : (x : Float) → T (fits binary32 x) → narrowed x ≡ x
 unfolding narrowed
 narrow-exact nan t = refl
 narrow-exact (inf s) t = refl
-narrow-exact (fin s m e) t =
-    let k = fits-parts binary32 s m e t in
-    value-unique binary32 (round binary32 s (m * up e) (down e)) (fin s m e) s (m * up e) (down e) (m * up e) (down e) (down-pos e) (down-pos e)
-    (round-fits binary32 s (m * up e) (down e)) t (on-grid binary32 s m e (k .0) (k .1) (k .2)) (refl, refl) refl
+narrow-exact (fin s m e) t = round-own binary32 s m e t
 
 -- ---- the sign
 pub narrow-neg : (x : Float) → narrowed (neg x) ≡ neg (narrowed x)

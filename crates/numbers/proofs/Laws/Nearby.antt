@@ -5,22 +5,23 @@ use mathlib.Core.Logic.{_⊎_, inl, inr}
 use Prim.Native.Nat.{ℕ, suc, _+_, _*_, _^_, _≤_, _<_}
 use native.Mathlib.Nat.{lt-irrefl, le-of-eq, zero-lt-suc, mul-le-mul-right, mul-pos, lt-of-mul-lt-mul-right}
 use native.Mathlib.Omega.{arith}
-use mathlib.Core.Bool.{Bool, true, false, not}
+use mathlib.Core.Bool.{Bool, true, false, not, cond}
 use lib.IntN.{pos}
 use lib.Dec.{T, T-not, lit<}
 use lib.Ieee.{Float, fin, binary64, round, add, sub, neg, le, lt, eq, fits}
 use lib.Ieee.Fits.{add-fits}
 use lib.Ieee.Scale.{finite}
 use lib.Ieee.Positive.{den, den-pos}
+use Rattle.ieee.specs.Constants.{zero₀, one₀}
 use Rattle.ieee.specs.Fraction.{plus, less}
 use Rattle.ieee.proofs.Compare.{eq-swap}
-use Rattle.ieee.proofs.Order.{zero₀, one₀, Val, own-val, vals→le, le→vals, lt→vals, le→cross, lt→cross, not-lt→le, finite-number, between, neg-val, les→eq, eq→cross, val-same}
+use Rattle.ieee.proofs.Order.{Val, own-val, vals→le, le→vals, lt→vals, le→cross, lt→cross, not-lt→le, finite-number, between, neg-val, les→eq, eq→cross, val-same}
 use Rattle.ieee.proofs.Round.{round-zero}
 use Rattle.ieee.proofs.Rounds.{Rounds, add-at}
 use Rattle.ieee.proofs.Held.{rounds-above, rounds-below, no-fraction}
 use Rattle.numbers.specs.Whole.{floored, floorPlus, floorLess, far, Beside, same, under, over}
 use Rattle.ieee.proofs.Test.{order}
-use Rattle.ieee.proofs.Exact.{whole-held, rounds-whole}
+use Rattle.ieee.proofs.Exact.{minus-zero, whole-held, rounds-whole}
 use Rattle.ieee.proofs.Unique.{same-data}
 use Rattle.ieee.proofs.Cancel.{cancels}
 use Rattle.numbers.proofs.Laws.Whole.{floor-is, floor-finite, floor-fits, floor-under, floor-next, near-finite, floor-near, next-is, floor-lt-next, whole-floor}
@@ -165,12 +166,12 @@ module _ (x : Float) (t : T (fits binary64 x)) (lo : T (lt (neg far) x)) (hi : T
       let y = add binary64 (floored x) one₀ in
       absurd (unequal x y fine (next-is x t lo hi .0) (floor-lt-next x t lo hi) (subst T (eq-swap y x) (subst (λ (z : Float). T (eq z x)) e k)))
 
-  pub floor-down : (r : Float) → Beside x r → T (not (eq r x)) → T (not (lt x r)) → r ≡ floored x
+  floor-down : (r : Float) → Beside x r → T (not (eq r x)) → T (not (lt x r)) → r ≡ floored x
   floor-down r (same e h) n k = absurd (T-not (eq r x) n h)
   floor-down r (under l e) n k = e
   floor-down r (over l e) n k = absurd (T-not (lt x r) k (subst (λ (z : Float). T (lt x z)) (sym e) (floor-lt-next x t lo hi)))
 
-  pub floor-back : (r : Float) → Beside x r → T (not (eq r x)) → T (lt x r) → sub binary64 r one₀ ≡ floored x
+  floor-back : (r : Float) → Beside x r → T (not (eq r x)) → T (lt x r) → sub binary64 r one₀ ≡ floored x
   unfolding sub neg
   floor-back r (same e h) n k = absurd (T-not (eq r x) n h)
   floor-back r (under l e) n k = absurd (apart (floored x) x (floor-finite x fine t) fine l (subst (λ (z : Float). T (lt x z)) e k))
@@ -184,3 +185,11 @@ module _ (x : Float) (t : T (fits binary64 x)) (lo : T (lt (neg far) x)) (hi : T
       (val-same (add binary64 y i) _ _ 1 _ _ (omega arith) (rounds-whole binary64 (add binary64 y i) _ _ (omega arith) (omega arith) (add-at binary64 y i _ _ 1 0 1 1 (zero-lt-suc 0) (zero-lt-suc 0) v (tt, refl))))
       (floor-is x fine t)
       (λ q. cancels binary64 y i _ _ 0 1 (zero-lt-suc 0) v (tt, refl) (omega arith) ∙ sym (floor-zero x fine t l q))
+
+  -- one taken off where r lies above x
+  pub floor-off : (r d : Float) → Beside x r → T (not (eq r x)) → d ≡ cond (lt x r) one₀ zero₀ → sub binary64 r d ≡ floored x
+  floor-off r d b n e = ap (sub binary64 r) e ∙ go (lt x r) (λ h. h) (λ h. h)
+    where
+      go : (u : Bool) → (T u → T (lt x r)) → (T (not u) → T (not (lt x r))) → sub binary64 r (cond u one₀ zero₀) ≡ floored x
+      go true h k = floor-back r b n (h tt)
+      go false h k = let g = floor-down r b n (k tt) in rw (g, minus-zero binary64 (floored x) (floor-fits x t))

@@ -13,8 +13,9 @@ use lib.Ieee.Fits.{down-pos}
 use lib.Ieee.Exact.{HasValue}
 use lib.Ieee.Scale.{finite}
 use lib.Ieee.Positive.{den, den-pos}
+use Rattle.ieee.specs.Constants.{zero₀, one₀}
 use Rattle.ieee.specs.Fraction.{plus, less}
-use Rattle.ieee.proofs.Order.{zero₀, one₀, less-none, Val, own-val, vals→lt}
+use Rattle.ieee.proofs.Order.{less-none, Val, own-val, vals→lt}
 use Rattle.ieee.proofs.Rounds.{Rounds, rounds-same, sub-at}
 use Rattle.ieee.proofs.Held.{fits-parts, on-grid, rounds-above, rounds-below}
 use Rattle.ieee.proofs.Exact.{Exact, rounds-exact, zero-exact}

@@ -10,8 +10,9 @@ use lib.Ieee.{Float, nan, inf, fin, Format, sub, neg, le, lt, eq}
 use lib.Ieee.Bits.{is-true, is-false}
 use lib.Ieee.Scale.{finite}
 use lib.Ieee.Positive.{den, den-pos}
+use Rattle.ieee.specs.Constants.{zero₀}
 use Rattle.ieee.specs.Fraction.{plus, less}
-use Rattle.ieee.proofs.Order.{minus-le, not-below, zero₀, Val, own-val, vals→le, number, finite-number, not-lt→le, le-refl-float, neg-number, neg-finite, between, les→eq}
+use Rattle.ieee.proofs.Order.{minus-le, not-below, Val, own-val, vals→le, number, finite-number, not-lt→le, le-refl-float, neg-number, neg-finite, between, les→eq}
 use Rattle.ieee.proofs.Rounds.{rounds-same, sub-at}
 use Rattle.ieee.proofs.Exact.{Exact, rounds-exact, zero-exact}
 use Rattle.numbers.specs.Range.{limited, greater, smaller}

@@ -15,8 +15,9 @@ use lib.Ieee.Exact.{HasValue}
 use lib.Ieee.Back.{round-whole, whole-unique}
 use lib.Ieee.Scale.{finite}
 use lib.Ieee.Positive.{den, den-pos}
+use Rattle.ieee.specs.Constants.{one₀}
 use Rattle.ieee.specs.Fraction.{plus, less}
-use Rattle.ieee.proofs.Order.{one₀, Val, own-val, has-val, vals→le, vals→lt, lt→cross, le→cross, not-lt→le, val-same}
+use Rattle.ieee.proofs.Order.{Val, own-val, has-val, vals→le, vals→lt, lt→cross, le→cross, not-lt→le, val-same}
 use Rattle.ieee.proofs.Rounds.{add-at}
 use Rattle.ieee.proofs.Held.{fits-parts, on-grid, no-fraction}
 use Rattle.numbers.specs.Whole.{wholeDown, floored, floorPlus, floorLess, far}

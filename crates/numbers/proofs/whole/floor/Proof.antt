@@ -1,10 +1,11 @@
 -- `numbers::whole::floor` meets its contract: from 2^52 up x is its own floor, and below that its floor is found from the whole number beside x. Assumes nothing.
 use lib.Dec.{T}
+use borrow.Author.Needs.{needs}
 use lib.Ieee.{Float, binary64, ofBits, neg, lt, fits}
 use Rattle.numbers.specs.Whole.{far}
 use Rattle.ieee.proofs.Test.{yes, no}
 use Rattle.numbers.proofs.Laws.Whole.{far-above, far-below}
-use Rattle.numbers.proofs.Laws.Nearby.{floor-same, floor-back, floor-down}
+use Rattle.numbers.proofs.Laws.Nearby.{floor-same, floor-off}
 use Rattle.numbers.proofs.whole.floor.Statement.{statement}
 use Rattle.numbers.proofs.whole.floor.Tie as tie
 
@@ -33,24 +34,21 @@ nearby-requires c κs = (above-in c, below-in c)
 returns : tie.Need-returns
 returns c = let i = c .before .before in floor-same (x-of i) (held-in i) (above-in i) (below-in i) _ (c .before .nearby .ensures) (yes (c .if3 .taken))
 
+above-requires : tie.Need-above-requires
+above-requires c κs = search needs
+
 returns-2 : tie.Need-returns-2
-unfolding ofBits
 returns-2 c =
     let i = c .before .before .before in
-    floor-back (x-of i) (held-in i) (above-in i) (below-in i) _ (c .before .before .nearby .ensures) (no (c .before .if3 .left)) (yes (c .if4 .taken))
+    floor-off (x-of i) (held-in i) (above-in i) (below-in i) _ _ (c .before .before .nearby .ensures) (no (c .before .if3 .left)) (c .above .ensures)
 
 returns-3 : tie.Need-returns-3
-returns-3 c =
-    let i = c .before .before .before in
-    floor-down (x-of i) (held-in i) (above-in i) (below-in i) _ (c .before .before .nearby .ensures) (no (c .before .if3 .left)) (no (c .if4 .left))
+unfolding ofBits
+returns-3 c = far-above (c .before .before .args .x) (held (c .before .before)) (no (c .if2 .left))
 
 returns-4 : tie.Need-returns-4
-unfolding ofBits
-returns-4 c = far-above (c .before .before .args .x) (held (c .before .before)) (no (c .if2 .left))
-
-returns-5 : tie.Need-returns-5
 unfolding ofBits neg
-returns-5 c = far-below (c .before .args .x) (held (c .before)) (no (c .if1 .left))
+returns-4 c = far-below (c .before .args .x) (held (c .before)) (no (c .if1 .left))
 
 pub floor-spec : {M : Type 1} → statement M
-floor-spec = tie.close (tie.spec nearby-requires returns returns-2 returns-3 returns-4 returns-5)
+floor-spec = tie.close (tie.spec nearby-requires returns above-requires returns-2 returns-3 returns-4)
