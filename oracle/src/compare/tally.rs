@@ -14,20 +14,9 @@ enum Likeness {
     Different,
 }
 
-fn likeness32(a: f32, b: f32) -> Likeness {
-    if a.to_bits() == b.to_bits() {
-        Likeness::Same
-    } else if a.is_nan() && b.is_nan() {
-        Likeness::NanPattern
-    } else if a == b {
-        Likeness::ZeroSign
-    } else {
-        Likeness::Different
-    }
-}
-
-fn likeness64(a: f64, b: f64) -> Likeness {
-    if a.to_bits() == b.to_bits() {
+/// Of two floats, widened if they are single: widening keeps the number, and a NaN a NaN.
+fn floats(same_bits: bool, a: f64, b: f64) -> Likeness {
+    if same_bits {
         Likeness::Same
     } else if a.is_nan() && b.is_nan() {
         Likeness::NanPattern
@@ -40,8 +29,12 @@ fn likeness64(a: f64, b: f64) -> Likeness {
 
 fn likeness(a: Value, b: Value) -> Likeness {
     let same = match (a, b) {
-        (Value::Single(a), Value::Single(b)) => return likeness32(a, b),
-        (Value::Double(a), Value::Double(b)) => return likeness64(a, b),
+        (Value::Single(a), Value::Single(b)) => {
+            return floats(a.to_bits() == b.to_bits(), f64::from(a), f64::from(b));
+        }
+        (Value::Double(a), Value::Double(b)) => {
+            return floats(a.to_bits() == b.to_bits(), a, b);
+        }
         (Value::Count(a), Value::Count(b)) => a == b,
         (Value::Phase(a), Value::Phase(b)) => a == b,
         (Value::Code(a), Value::Code(b)) => a == b,
@@ -179,7 +172,8 @@ impl Tally {
     pub fn compare_buffers<T: Parts>(&mut self, a: &[T], b: &[T]) {
         for (a, b) in a.iter().zip(b) {
             for place in 0..T::COUNT {
-                self.count(likeness32(a.part(place), b.part(place)), "output");
+                let (a, b) = (Value::Single(a.part(place)), Value::Single(b.part(place)));
+                self.count(likeness(a, b), "output");
             }
         }
     }
@@ -216,12 +210,30 @@ mod tests {
 
     #[test]
     fn only_a_zero_s_sign_and_a_nan_s_pattern_are_told_apart_from_differences() {
-        assert_eq!(likeness32(1.0, 1.0), Likeness::Same);
-        assert_eq!(likeness32(0.0, -0.0), Likeness::ZeroSign);
-        assert_eq!(likeness32(f32::NAN, -f32::NAN), Likeness::NanPattern);
-        assert_eq!(likeness32(f32::NAN, 1.0), Likeness::Different);
-        assert_eq!(likeness64(1.0, 1.0f64.next_up()), Likeness::Different);
-        assert_eq!(likeness64(0.0, 5e-324), Likeness::Different);
+        assert_eq!(
+            likeness(Value::Single(1.0), Value::Single(1.0)),
+            Likeness::Same
+        );
+        assert_eq!(
+            likeness(Value::Single(0.0), Value::Single(-0.0)),
+            Likeness::ZeroSign
+        );
+        assert_eq!(
+            likeness(Value::Single(f32::NAN), Value::Single(-f32::NAN)),
+            Likeness::NanPattern
+        );
+        assert_eq!(
+            likeness(Value::Single(f32::NAN), Value::Single(1.0)),
+            Likeness::Different
+        );
+        assert_eq!(
+            likeness(Value::Double(1.0), Value::Double(1.0f64.next_up())),
+            Likeness::Different
+        );
+        assert_eq!(
+            likeness(Value::Double(0.0), Value::Double(5e-324)),
+            Likeness::Different
+        );
         assert_eq!(
             likeness(Value::Count(1), Value::Count(2)),
             Likeness::Different

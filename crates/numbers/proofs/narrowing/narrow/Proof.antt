@@ -1,11 +1,12 @@
 -- `numbers::narrowing::narrow` meets its contract: x is read back from its bits, the sign apart. Assumes nothing.
-use mathlib.Core.Path.{_≡_, sym, ap, _∙_, subst}
+use mathlib.Core.Path.{_≡_, sym, ap, _∙_}
 use Prim.Native.Nat.{_+_, _*_, _/_, _^_}
 use native.Mathlib.Omega.{arith}
 use lib.Dec.{T}
 use lib.Ieee.{binary32, binary64, fits, div, ofBits, toBits}
 use lib.Ieee.Bits.{nanBits-is}
 use Rattle.numbers.specs.Narrowing.{narrowed}
+use Rattle.ieee.proofs.Test.{yes}
 use Rattle.ieee.proofs.Bits.{withSign, sign-bit, sign-lt, parts, size-le}
 use Rattle.ieee.proofs.Nan.{not-nan, is-nan}
 use Rattle.numbers.proofs.Laws.Narrowing.{narrow-number, narrow-with-sign}
@@ -14,7 +15,7 @@ use Rattle.numbers.proofs.narrowing.narrow.Tie as tie
 
 -- what owning an f64 tells: the format holds it
 held : (c : tie.Start) → T (fits binary64 (c .args .x))
-held c = subst T (sym (c .good .0 .1)) tt
+held c = yes (c .good .0 .1)
 
 returns : tie.Need-returns
 unfolding div ofBits narrowed

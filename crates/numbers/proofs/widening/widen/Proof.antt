@@ -1,10 +1,11 @@
 -- `numbers::widening::widen` meets its contract: x is read back from its bits, the sign apart. Assumes nothing.
-use mathlib.Core.Path.{_≡_, sym, ap, _∙_, subst}
+use mathlib.Core.Path.{_≡_, sym, ap, _∙_}
 use Prim.Native.Nat.{_+_, _*_, _/_, _^_}
 use native.Mathlib.Omega.{arith}
 use lib.Dec.{T}
 use lib.Ieee.{binary32, binary64, fits, div, ofBits, toBits}
 use lib.Ieee.Bits.{nanBits-is, toBits-lt}
+use Rattle.ieee.proofs.Test.{yes}
 use Rattle.ieee.proofs.Bits.{withSign, sign-bit, sign-lt, parts, size-le}
 use Rattle.ieee.proofs.Nan.{not-nan, is-nan}
 use Rattle.numbers.proofs.widening.widen.Statement.{statement}
@@ -12,7 +13,7 @@ use Rattle.numbers.proofs.widening.widen.Tie as tie
 
 -- what owning an f32 tells: the format holds it
 held : (c : tie.Start) → T (fits binary32 (c .args .x))
-held c = subst T (sym (c .good .0 .1)) tt
+held c = yes (c .good .0 .1)
 
 returns : tie.Need-returns
 unfolding div ofBits
