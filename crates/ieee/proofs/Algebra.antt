@@ -8,7 +8,6 @@ use mathlib.Core.Bool.{Bool, true, false, not, _&&_, Bool·beq, cond}
 use lib.Dec.{T, ltb, eqb, ltb→lt, nltb→le}
 use lib.IntN.{pos}
 use lib.Ieee.{Float, nan, inf, fin, Format, up, down, unlike, round, sum, neg, add, sub, mul, div}
-use Rattle.ieee.specs.Alike.{signed}
 use Rattle.ieee.proofs.Round.{round-neg}
 
 not-not : (s : Bool) → not (not s) ≡ s
@@ -66,13 +65,6 @@ mul-neg-right f x y = cc (mul-swap f x (neg y), mul-neg f y x, mul-swap f y x)
 
 pub mul-negs : (f : Format) (x y : Float) → mul f (neg x) (neg y) ≡ mul f x y
 mul-negs f x y = cc (mul-neg f x (neg y), mul-neg-right f x y, neg-neg (mul f x y))
-
-pub mul-signed : (f : Format) (s t : Bool) (x y : Float) → mul f (signed s x) (signed t y) ≡ signed (unlike s t) (mul f x y)
-unfolding signed
-mul-signed f true true x y = mul-negs f x y
-mul-signed f true false x y = mul-neg f x y
-mul-signed f false true x y = mul-neg-right f x y
-mul-signed f false false x y = refl
 
 -- ---- quotients
 neg-cond₃ : (a b s : Bool) (x : Float) → cond a (cond b nan (inf (not s))) (neg x) ≡ neg (cond a (cond b nan (inf s)) x)
@@ -136,14 +128,6 @@ add-swap f (fin s m e) nan = refl
 add-swap f (fin s m e) (inf t) = refl
 add-swap f (fin s m e) (fin t n d) = rw (mul-comm (down e) (down d)) (sum-swap f s t (m * up e * down d) (n * up d * down e) (down d * down e))
 
-pub sub-neg : (f : Format) (x y : Float) → sub f x (neg y) ≡ add f x y
-unfolding sub
-sub-neg f x y = ap (add f x) (neg-neg y)
-
 pub sub-is : (f : Format) (x y : Float) → sub f x y ≡ add f x (neg y)
 unfolding sub
 sub-is f x y = refl
-
--- -x - (-y) is y - x
-pub sub-negs : (f : Format) (x y : Float) → sub f (neg x) (neg y) ≡ sub f y x
-sub-negs f x y = cc (sub-neg f (neg x) y, add-swap f (neg x) y, sub-is f y x)

@@ -1,7 +1,7 @@
 -- Where nothing is lost: a fraction that the format holds is its own rounding, and so are the half and the double of a value that is not too small or too large.
 -- Assumes nothing.
 use mathlib.Core.Path.{_≡_, refl, sym, ap, _∙_, subst}
-use mathlib.Core.Logic.{inl, inr}
+use mathlib.Core.Logic.{_⊎_, inl, inr}
 use Prim.Native.Nat.{ℕ, zero, suc, _+_, _-_, _*_, _^_, _≤_, _<_}
 use native.Mathlib.Nat.{sub-zero, zero-mul, eq-of-mul-eq-mul-right, zero-lt-suc, add-mul, mul-one, one-mul, mul-zero, mul-suc, add-zero, zero-add, mul-assoc, mul-right-comm, mul-pos, pow-suc, pow-succ', mul-lt-mul-of-pos-right, lt-of-mul-lt-mul-right, le-trans, le-of-eq}
 use native.Mathlib.Omega.{arith}
@@ -21,7 +21,7 @@ use Rattle.ieee.specs.Fraction.{plus, less}
 use Rattle.ieee.proofs.Round.{round-zero}
 use Rattle.ieee.proofs.Like.{add-fin}
 use Rattle.ieee.proofs.Test.{order}
-use Rattle.ieee.proofs.Order.{val-same, Val, has-val, between}
+use Rattle.ieee.proofs.Order.{Val, has-val, val-same, one-part, between}
 use Rattle.ieee.proofs.Rounds.{Rounds, high, deep, rounds-same, mul-rounds}
 use Rattle.ieee.proofs.Held.{fits-parts, on-grid, rounds-above, rounds-below}
 use Rattle.ieee.proofs.Unique.{le-both, value-unique}
@@ -55,6 +55,18 @@ rounds-exact f z p n c g h (deep a e) = rw e (let v = has-val (round f true (n -
     over p n c P N d a e =
         let x : (n - p) * d + p * d ≡ n * d = sym (add-mul (n - p) p d) ∙ ap (λ (z : ℕ). z * d) (omega arith) in
         omega arith
+
+-- where one of p and n is 0, as in a float's own fraction, there is one magnitude to look at
+pub rounds-one-sided : (f : Format) (z : Float) (p n c : ℕ) → (p ≡ 0) ⊎ (n ≡ 0) → Exact f (p + n) c → Rounds f z p n c → Val z p n c
+rounds-one-sided f z p n c e g r = rounds-exact f z p n c (λ h. subst (λ (w : ℕ). Exact f w c) (over e h) g) (λ h. subst (λ (w : ℕ). Exact f w c) (under e h) g) r
+  where
+    over : (p ≡ 0) ⊎ (n ≡ 0) → n ≤ p → p + n ≡ p - n
+    over (inl e) h = omega arith
+    over (inr e) h = omega arith
+
+    under : (p ≡ 0) ⊎ (n ≡ 0) → p ≤ n → p + n ≡ n - p
+    under (inl e) h = omega arith
+    under (inr e) h = omega arith
 
 -- ---- which fractions are
 -- zero
@@ -165,19 +177,6 @@ double-grid f s m e t h =
     exact-same f (m * up (raise e)) (down (raise e)) (m * up e * 2) (down e) (down-pos (raise e)) (down-pos e) g
     (λ u. on-grid f u m (raise e) (k .0) (raise-down e (2 ^ low f) (k .1)) (under (m * up (raise e)) (down (raise e)) (m * up e * 2) (down e) (2 ^ suc (emax f)) 1 (down-pos e) (down-pos (raise e)) (ap (λ (z : ℕ). m * up (raise e) * z) (mul-one (down e)) ∙ g) h (zero-lt-suc 0)))
 
--- of a fraction with one part 0, what `rounds-exact` asks
-one-sided : (f : Format) (z : Float) (p n c : ℕ) → 0 < c → p ≡ 0 → Exact f n c → Rounds f z p n c → Val z p n c
-one-sided f z p n c C h g r =
-    rounds-exact f z p n c
-    (λ k. subst (λ (w : ℕ). Exact f w c) (omega arith) (zero-exact f c C))
-    (λ k. subst (λ (w : ℕ). Exact f w c) (omega arith) g) r
-
-other-sided : (f : Format) (z : Float) (p n c : ℕ) → 0 < c → n ≡ 0 → Exact f p c → Rounds f z p n c → Val z p n c
-other-sided f z p n c C h g r =
-    rounds-exact f z p n c
-    (λ k. subst (λ (w : ℕ). Exact f w c) (omega arith) g)
-    (λ k. subst (λ (w : ℕ). Exact f w c) (omega arith) (zero-exact f c C)) r
-
 half-rounds : (f : Format) (x : Float) → T (finite x) → Rounds f (mul f x half₀) (plus x) (less x) (den x * 2)
 half-rounds f x p =
     let C = mul-pos (den-pos x) (zero-lt-suc 1) in
@@ -188,10 +187,11 @@ half-rounds f x p =
 
 -- x / 2 is exact where the format's grid goes one place lower
 pub half-exact : (f : Format) (x : Float) → T (finite x) → T (fits f x) → den x * 2 ≤ 2 ^ low f → Val (mul f x half₀) (plus x) (less x) (den x * 2)
-half-exact f nan p t h = absurd p
-half-exact f (inf s) p t h = absurd p
-half-exact f (fin true m e) p t h = one-sided f _ _ _ _ (mul-pos (down-pos e) (zero-lt-suc 1)) refl (half-grid f true m e t h) (half-rounds f (fin true m e) tt)
-half-exact f (fin false m e) p t h = other-sided f _ _ _ _ (mul-pos (down-pos e) (zero-lt-suc 1)) refl (half-grid f false m e t h) (half-rounds f (fin false m e) tt)
+half-exact f x p t h = rounds-one-sided f (mul f x half₀) (plus x) (less x) (den x * 2) (one-part x) (go x p t h) (half-rounds f x p)
+  where
+    go : (x : Float) → T (finite x) → T (fits f x) → den x * 2 ≤ 2 ^ low f → Exact f (plus x + less x) (den x * 2)
+    go (fin true m e) p t h = rw (zero-add (m * up e)) (half-grid f true m e t h)
+    go (fin false m e) p t h = rw (add-zero (m * up e)) (half-grid f false m e t h)
 
 double-rounds : (f : Format) (x : Float) → T (finite x) → Rounds f (mul f x two₀) (plus x * 2) (less x * 2) (den x)
 double-rounds f x p =
@@ -202,7 +202,12 @@ double-rounds f x p =
 
 -- 2 * x is exact where it does not overflow
 pub double-exact : (f : Format) (x : Float) → T (finite x) → T (fits f x) → (plus x + less x) * 2 < 2 ^ suc (emax f) * den x → Val (mul f x two₀) (plus x * 2) (less x * 2) (den x)
-double-exact f nan p t h = absurd p
-double-exact f (inf s) p t h = absurd p
-double-exact f (fin true m e) p t h = one-sided f _ _ _ _ (down-pos e) refl (double-grid f true m e t (omega arith)) (double-rounds f (fin true m e) tt)
-double-exact f (fin false m e) p t h = other-sided f _ _ _ _ (down-pos e) refl (double-grid f false m e t (omega arith)) (double-rounds f (fin false m e) tt)
+double-exact f x p t h = rounds-one-sided f (mul f x two₀) (plus x * 2) (less x * 2) (den x) (twice (one-part x)) (go x p t h) (double-rounds f x p)
+  where
+    twice : {a b : ℕ} → (a ≡ 0) ⊎ (b ≡ 0) → (a * 2 ≡ 0) ⊎ (b * 2 ≡ 0)
+    twice (inl e) = inl (omega arith)
+    twice (inr e) = inr (omega arith)
+
+    go : (x : Float) → T (finite x) → T (fits f x) → (plus x + less x) * 2 < 2 ^ suc (emax f) * den x → Exact f (plus x * 2 + less x * 2) (den x)
+    go (fin true m e) p t h = rw (zero-add (m * up e * 2)) (double-grid f true m e t (omega arith))
+    go (fin false m e) p t h = rw (add-zero (m * up e * 2)) (double-grid f false m e t (omega arith))

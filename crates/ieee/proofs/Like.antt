@@ -11,7 +11,16 @@ use lib.Ieee.Fits.{up-pos, down-pos}
 use lib.Ieee.Scale.{round-same}
 use Rattle.ieee.specs.Alike.{plain, signed, Like, Alike}
 use Rattle.ieee.proofs.Round.{round-neg, round-zero}
-use Rattle.ieee.proofs.Algebra.{neg-neg, mul-negs, mul-swap, mul-signed, add-swap, sub-is, div-neg}
+use Rattle.ieee.proofs.Algebra.{neg-neg, mul-neg, mul-neg-right, mul-negs, mul-swap, add-swap, sub-is, div-neg}
+
+-- ---- what the relation says: a number is alike itself, and opposite to its negative
+pub like-refl : (x : Float) → Like false x x
+unfolding signed
+like-refl x = record { same = refl }
+
+pub like-minus-r : (x : Float) → Like true x (neg x)
+unfolding signed
+like-minus-r x = record { same = ap plain (sym (neg-neg x)) }
 
 -- ---- what an operation does with `plain` of an argument
 zero-alike : (s t : Bool) (d e : ℤ) → plain (fin s zero d) ≡ plain (fin t zero e)
@@ -49,6 +58,13 @@ mul-left f (fin s (suc m) e) y = refl
 
 pub plain-mul : (f : Format) (x y : Float) → plain (mul f (plain x) (plain y)) ≡ plain (mul f x y)
 plain-mul f x y = cc (mul-left f x (plain y), mul-swap f x (plain y), mul-left f y x, mul-swap f y x)
+
+mul-signed : (f : Format) (s t : Bool) (x y : Float) → mul f (signed s x) (signed t y) ≡ signed (unlike s t) (mul f x y)
+unfolding signed
+mul-signed f true true x y = mul-negs f x y
+mul-signed f true false x y = mul-neg f x y
+mul-signed f false true x y = mul-neg-right f x y
+mul-signed f false false x y = refl
 
 -- ---- sums
 -- a zero and b / c: it is b / c, to the sign of a zero
@@ -162,10 +178,6 @@ div-signed f true x y = div-neg f x y
 div-signed f false x y = refl
 
 -- ---- `Like`
-pub like-refl : (x : Float) → Like false x x
-unfolding signed
-like-refl x = record { same = refl }
-
 pub like-of-eq : {x y : Float} → x ≡ y → Like false x y
 unfolding signed
 like-of-eq e = record { same = ap plain e }
@@ -270,10 +282,6 @@ like-square f {s} {x} {y} p = cc (square-plain f x, p .same, square-plain f (sig
 pub like-minus : (x : Float) → Like true (neg x) x
 like-minus x = like-not (like-refl x)
 
-pub like-minus-r : (x : Float) → Like true x (neg x)
-unfolding signed
-like-minus-r x = record { same = ap plain (sym (neg-neg x)) }
-
 pub like-zero : (s : Bool) (t u : Bool) (d e : ℤ) → Like s (fin t zero d) (fin u zero e)
 unfolding signed neg plain
 like-zero true t u d e = record { same = refl }
@@ -318,7 +326,3 @@ like-sub-add-x f {s} {x} {x'} {y} {y'} p q = rw (sub-is f x y) (like-add-x f p (
 pub ruleset likes = (like-refl, like-minus, like-neg, like-add, like-sub, like-mul-l, like-mul-r, like-mul-n)
 
 pub ruleset crossed = (like-add-x, like-sub-x, like-add-sub, like-add-sub-x, like-sub-add, like-sub-add-x)
-
--- x - y is -(y - x)
-pub sub-turned : (f : Format) (x y : Float) → Like true (sub f x y) (sub f y x)
-sub-turned f x y = like-sub-x f (like-refl x) (like-refl y)

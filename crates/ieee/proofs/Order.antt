@@ -1,7 +1,7 @@
 -- The order of finite values as an order of their fractions (plus - less) / den: one shape serves both signs and both zeros, so that a law about the order is a linear fact over ℕ.
 -- Assumes nothing.
 use mathlib.Core.Path.{_≡_, refl, sym, ap, subst}
-use mathlib.Core.Logic.{inl, inr}
+use mathlib.Core.Logic.{_⊎_, inl, inr}
 use Prim.Native.Nat.{ℕ, _+_, _*_, _≤_, _<_}
 use native.Mathlib.Nat.{le-of-eq, le-of-lt, le-antisymm, not-le-of-lt, lt-of-not-le, lt-irrefl, add-mul, mul-add, mul-comm, mul-assoc, mul-left-comm, mul-le-mul-right, le-of-mul-le-mul-right, mul-pos}
 use native.Mathlib.Omega.{arith}
@@ -14,7 +14,7 @@ use lib.Ieee.Scale.{finite}
 use lib.Ieee.Positive.{den, den-pos}
 use Rattle.ieee.specs.Constants.{zero₀}
 use Rattle.ieee.specs.Fraction.{plus, less}
-use Rattle.ieee.proofs.Test.{or-split, or-right}
+use Rattle.ieee.proofs.Test.{or-split, or-left, or-right}
 use Rattle.ieee.proofs.Compare.{eq-swap}
 
 -- products multiplied out and put in one order, so that omega can take each for an unknown
@@ -136,6 +136,12 @@ finite-number (fin s m e) p = tt
 pub less-none : (x : Float) → T (finite x) → T (le zero₀ x) → less x ≡ 0
 less-none (fin false m e) p h = refl
 less-none (fin true m e) p h = let k = le→cross zero₀ (fin true m e) tt p h in omega arith
+
+pub one-part : (x : Float) → (plus x ≡ 0) ⊎ (less x ≡ 0)
+one-part nan = inl refl
+one-part (inf s) = inl refl
+one-part (fin true m e) = inl refl
+one-part (fin false m e) = inr refl
 
 -- and one above 0 has something to add
 pub plus-some : (x : Float) → T (finite x) → T (lt zero₀ x) → (0 < plus x) × (less x ≡ 0)
@@ -298,6 +304,10 @@ minus-le (fin false m e) p h = cross→le (fin true m e) (fin false m e) tt tt (
 -- ---- what an order rules out
 pub not-below : (x y : Float) → T (finite x) → T (finite y) → T (le y x) → T (lt x y) → ⊥
 not-below x y p q h g = let a = le→cross y x q p h in let b = lt→cross x y p q g in lt-irrefl 0 (omega arith)
+
+pub lt→le : (x y : Float) → T (lt x y) → T (le x y)
+unfolding le
+lt→le x y h = or-left (lt x y) (eq x y) h
 
 -- ---- equal as numbers
 eq→le : (x y : Float) → T (eq x y) → T (le x y)

@@ -2,10 +2,10 @@
 -- So `Alike` is document 01's "equal as numbers, zeros alike, or if both are NaN". Assumes nothing.
 use mathlib.Core.Path.{_≡_, refl, sym, ap, _∙_, subst}
 use mathlib.Core.Logic.{_≢_, _⊎_, inl, inr}
-use Prim.Native.Nat.{_-_, _/_, ℕ, zero, suc, _+_, _*_, _^_, _<_}
+use Prim.Native.Nat.{ℕ, zero, suc, _+_, _-_, _*_, _/_, _^_, _<_}
 use native.Mathlib.Nat.{le-antisymm, mul-right-comm, le-of-eq, lt-irrefl, zero-lt-suc, zero-mul, mul-pos, eq-of-mul-eq-mul-right}
 use native.Mathlib.Omega.{arith}
-use mathlib.Core.Bool.{cond, Bool, true, false, _&&_, _||_, Bool·beq}
+use mathlib.Core.Bool.{Bool, true, false, _&&_, _||_, Bool·beq, cond}
 use lib.IntN.{ℤ}
 use lib.Dec.{T, eqb, eqb→eq}
 use lib.Ieee.{Float, nan, inf, fin, Format, prec, low, up, down, size, le, eq, isNan, fits, hid, top, ofBits, toBits}
@@ -89,7 +89,6 @@ pub same→alike : (f : Format) (x y : Float) → T (fits f x) → T (fits f y) 
 same→alike f x y p q h = elim (or-split (eq x y) (isNan x && isNan y) h) [ inl w ↦ eq→alike f x y p q w | inr w ↦ both-nan x y w ]
 
 -- ---- from the order both ways
-
 pub le-both : (f : Format) (x y : Float) → T (fits f x) → T (fits f y) → T (finite x) → T (finite y) → T (le x y) → T (le y x) → Alike x y
 le-both f nan y t u p q h k = absurd p
 le-both f (inf s) y t u p q h k = absurd p

@@ -1,8 +1,8 @@
 -- "flush makes magnitudes below 1e-30 zero". Definitions only.
 use Prim.Native.Nat.{_^_}
 use mathlib.Core.Bool.{false, cond}
-use lib.IntN.{pos}
-use lib.Ieee.{Float, fin, Format, round, lt}
+use lib.Ieee.{Float, Format, round, lt}
+use Rattle.ieee.specs.Constants.{zero₀}
 use Rattle.ieee.specs.Magnitude.{magnitude}
 
 -- 1e-30, nearest in the format
@@ -11,4 +11,4 @@ tiny f = round f false 1 (10 ^ 30)
 
 -- x, or 0 if its magnitude is below 1e-30; a NaN is itself
 unfoldable pub flushed : Format → Float → Float
-flushed f x = cond (lt (magnitude x) (tiny f)) (fin false 0 (pos 0)) x
+flushed f x = cond (lt (magnitude x) (tiny f)) zero₀ x

@@ -5,6 +5,7 @@ use mathlib.Core.Bool.{Bool, true, false}
 use lib.IntN.{pos}
 use lib.Dec.{T}
 use lib.Ieee.{Float, nan, inf, fin, binary64, up, down, round, add, lt, eq}
+use Rattle.ieee.specs.Constants.{one₀}
 
 -- ±a / c toward minus infinity, in size: below zero the quotient is taken up
 abbrev pub wholeDown : Bool → ℕ → ℕ → ℕ
@@ -38,4 +39,4 @@ far = fin false 1 (pos 52)
 pub data Beside (x r : Float) : Type 0 where
   same : x ≡ floored x → T (eq r x) → Beside x r
   under : T (lt (floored x) x) → r ≡ floored x → Beside x r
-  over : T (lt (floored x) x) → r ≡ add binary64 (floored x) (fin false 1 (pos 0)) → Beside x r
+  over : T (lt (floored x) x) → r ≡ add binary64 (floored x) one₀ → Beside x r

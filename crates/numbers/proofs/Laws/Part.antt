@@ -1,8 +1,9 @@
 -- What is left of x over its floor: for x from 0 up the difference is exact and lies in 0 up to but not 1; below zero it is rounded and lies in 0 to 1, both included.
 -- Assumes nothing.
 use mathlib.Core.Path.{_≡_, refl, sym, ap, subst}
+use mathlib.Core.Logic.{inr}
 use Prim.Native.Nat.{ℕ, suc, _+_, _-_, _*_, _/_, _%_, _^_, _≤_, _<_}
-use native.Mathlib.Nat.{le-trans, le-of-eq, lt-of-le-of-lt, zero-lt-suc, mul-one, div-add-mod', mod-lt, mod-one, mod-le, zero-mod, zero-div, div-lt-iff-lt-mul, mul-pos, mul-le-mul-right}
+use native.Mathlib.Nat.{add-zero, le-trans, le-of-eq, lt-of-le-of-lt, zero-lt-suc, mul-one, div-add-mod', mod-lt, mod-one, mod-le, zero-mod, zero-div, div-lt-iff-lt-mul, mul-pos, mul-le-mul-right}
 use native.Mathlib.Omega.{arith}
 use mathlib.Core.Bool.{true, false}
 use lib.IntN.{pos, negsuc}
@@ -18,7 +19,7 @@ use Rattle.ieee.specs.Fraction.{plus, less}
 use Rattle.ieee.proofs.Order.{less-none, Val, own-val, vals→lt}
 use Rattle.ieee.proofs.Rounds.{Rounds, rounds-same, sub-at}
 use Rattle.ieee.proofs.Held.{fits-parts, on-grid, rounds-above, rounds-below}
-use Rattle.ieee.proofs.Exact.{Exact, rounds-exact, zero-exact}
+use Rattle.ieee.proofs.Exact.{Exact, rounds-one-sided, zero-exact}
 use Rattle.numbers.specs.Whole.{floored, floorPlus, floorLess}
 use Rattle.numbers.proofs.Laws.Whole.{floor-is, floor-under, floor-next}
 
@@ -66,9 +67,7 @@ pub part-is : (x : Float) → T (finite x) → T (fits binary64 x) → T (le zer
 part-is x p t h =
     let n = less-none x p h in
     let f = floor-plain x p n in
-    rounds-exact binary64 (sub binary64 x (floored x)) (plus x % den x) 0 (den x)
-    (λ l. subst (λ (z : ℕ). Exact binary64 z (den x)) (omega arith) (part-exact x p t))
-    (λ l. subst (λ (z : ℕ). Exact binary64 z (den x)) (omega arith) (part-exact x p t))
+    rounds-one-sided binary64 (sub binary64 x (floored x)) (plus x % den x) 0 (den x) (inr refl) (rw (add-zero (plus x % den x)) (part-exact x p t))
     (rounds-same binary64 (sub binary64 x (floored x)) _ _ _ (plus x % den x) 0 (den x) (mul-pos (den-pos x) (zero-lt-suc 0)) (den-pos x)
     (same-part (plus x) (less x) (den x) (floorPlus x) (floorLess x) n (f .0) (f .1)) (difference x p t))
 

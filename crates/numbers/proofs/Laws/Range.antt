@@ -1,4 +1,4 @@
--- A limited value lies within its limits, is what the source's `max` and `min` give, and is x itself where x lies within; and x - x tells whether x is finite.
+-- A limited value lies within its limits, is what the source's `max` and `min` give, in either order, and is x itself where x lies within; and x - x tells whether x is finite.
 -- Each law once, for both formats. Assumes nothing.
 use mathlib.Core.Path.{_≡_, refl, sym, ap, subst}
 use Prim.Native.Nat.{ℕ, _+_, _*_, _<_}
@@ -12,7 +12,8 @@ use lib.Ieee.Scale.{finite}
 use lib.Ieee.Positive.{den, den-pos}
 use Rattle.ieee.specs.Constants.{zero₀}
 use Rattle.ieee.specs.Fraction.{plus, less}
-use Rattle.ieee.proofs.Order.{minus-le, not-below, Val, own-val, vals→le, number, finite-number, not-lt→le, le-refl-float, neg-number, neg-finite, between, les→eq}
+use Rattle.ieee.proofs.Test.{yes}
+use Rattle.ieee.proofs.Order.{lt→le, le-trans-float, minus-le, not-below, Val, own-val, vals→le, number, finite-number, not-lt→le, le-refl-float, neg-number, neg-finite, between, les→eq}
 use Rattle.ieee.proofs.Rounds.{rounds-same, sub-at}
 use Rattle.ieee.proofs.Exact.{Exact, rounds-exact, zero-exact}
 use Rattle.numbers.specs.Range.{limited, greater, smaller}
@@ -60,6 +61,30 @@ limit-max-min x l q z = go (lt x (neg l))
     go : (a : Bool) → cond a (neg l) (cond (lt l x) l x) ≡ smaller (cond a (neg l) x) l
     go true = sym (ap (λ (b : Bool). cond b l (neg l)) (above-not l (neg l) q (neg-finite l q) (minus-le l q z)))
     go false = refl
+
+-- what lies above l does not lie below -l
+high-not-low : (x l : Float) → T (finite l) → T (le zero₀ l) → lt l x ≡ true → lt x (neg l) ≡ false
+high-not-low nan l q z h = unfold lt in refl
+high-not-low (inf true) l q z h = absurd (below-none l q (yes h))
+  where
+    below-none : (l : Float) → T (finite l) → T (lt l (inf true)) → ⊥
+    below-none (fin s m e) q h = unfold lt in h
+high-not-low (inf false) l q z h = top-not (neg l) (neg-finite l q)
+  where
+    top-not : (y : Float) → T (finite y) → lt (inf false) y ≡ false
+    top-not (fin s m e) q = unfold lt in refl
+high-not-low (fin s m e) l q z h =
+    let x = fin s m e in
+    above-not x (neg l) tt (neg-finite l q) (le-trans-float (neg l) l x (minus-le l q z) (lt→le l x (yes h)))
+
+-- and the source's `clamp_f32`, which takes the upper end first
+pub limit-min-max : (x l : Float) → T (finite l) → T (le zero₀ l) → limited x l ≡ greater (smaller x l) (neg l)
+unfolding limited
+limit-min-max x l q z = go (lt l x) (high-not-low x l q z)
+  where
+    go : (b : Bool) → (b ≡ true → lt x (neg l) ≡ false) → cond (lt x (neg l)) (neg l) (cond b l x) ≡ greater (cond b l x) (neg l)
+    go true h = rw (h refl, above-not l (neg l) q (neg-finite l q) (minus-le l q z))
+    go false h = refl
 
 -- ---- x - x is 0 for a finite x, of either sign, and a NaN for any other
 zero-eq : (z : Float) (p c : ℕ) → 0 < c → Val z p p c → T (eq z zero₀)

@@ -2,7 +2,7 @@
 -- A whole number is its own floor, as every value from 2^52 up is. Assumes nothing.
 use mathlib.Core.Path.{_≡_, refl, ap, _∙_, subst}
 use Prim.Native.Nat.{ℕ, suc, _+_, _-_, _*_, _/_, _^_, _≤_, _<_}
-use native.Mathlib.Nat.{le-of-mul-le-mul-right, le-trans, le-of-eq, zero-lt-suc, mul-one, mul-comm, div-one, div-le-self, div-mul-le-self, div-add-mod', mod-lt, mul-div-cancel, div-lt-iff-lt-mul, mul-le-mul-right, lt-of-mul-lt-mul-right, suc-mul}
+use native.Mathlib.Nat.{le-of-mul-le-mul-right, le-trans, le-of-eq, zero-lt-suc, mul-one, mul-comm, div-le-self, div-mul-le-self, div-add-mod', mod-lt, mul-div-cancel, div-lt-iff-lt-mul, mul-le-mul-right, lt-of-mul-lt-mul-right, suc-mul}
 use native.Mathlib.Omega.{arith}
 use mathlib.Core.Bool.{Bool, true, false, not, cond}
 use lib.IntN.{ℤ, pos, negsuc}
@@ -66,10 +66,23 @@ up-small m k P h =
 cut-small : (m c P : ℕ) → m < P → m * 1 / c ≤ P
 cut-small m c P h = let k = div-le-self (m * 1) c in omega arith
 
+-- ---- which whole number it is: floored x ≤ x < floored x + 1, of the fractions
+pub floor-under : (x : Float) → T (finite x) → floorPlus x * den x + less x ≤ plus x + floorLess x * den x
+floor-under nan p = absurd p
+floor-under (inf s) p = absurd p
+floor-under (fin false m e) p = let h = div-mul-le-self (m * up e) (down e) in omega arith
+floor-under (fin true m e) p = let h = up-ge (m * up e) (down e) (down-pos e) in omega arith
+
+pub floor-next : (x : Float) → T (finite x) → plus x + floorLess x * den x < floorPlus x * den x + den x + less x
+floor-next nan p = absurd p
+floor-next (inf s) p = absurd p
+floor-next (fin false m e) p = let h = cut-lt (m * up e) (down e) (down-pos e) in omega arith
+floor-next (fin true m e) p = let h = up-le (m * up e) (down e) (down-pos e) in omega arith
+
 -- ---- `floored` has the whole number's value
 whole-size : (s : Bool) (a : ℕ) → wholeDown s a 1 ≡ a
-whole-size false a = div-one a
-whole-size true a = div-one (a + 0) ∙ omega arith
+whole-size false a = omega arith
+whole-size true a = omega arith
 
 pub floor-val : (s : Bool) (m : ℕ) (e : ℤ) → T (fits binary64 (fin s m e)) → HasValue (floored (fin s m e)) s (wholeDown s (m * up e) (down e)) 1
 unfolding floored
@@ -94,19 +107,7 @@ floor-fits nan t = t
 floor-fits (inf s) t = t
 floor-fits (fin s m e) t = round-fits binary64 s (wholeDown s (m * up e) (down e)) 1
 
--- ---- floored x ≤ x < floored x + 1, of the fractions: these two say which whole number it is
-pub floor-under : (x : Float) → T (finite x) → floorPlus x * den x + less x ≤ plus x + floorLess x * den x
-floor-under nan p = absurd p
-floor-under (inf s) p = absurd p
-floor-under (fin false m e) p = let h = div-mul-le-self (m * up e) (down e) in omega arith
-floor-under (fin true m e) p = let h = up-ge (m * up e) (down e) (down-pos e) in omega arith
-
-pub floor-next : (x : Float) → T (finite x) → plus x + floorLess x * den x < floorPlus x * den x + den x + less x
-floor-next nan p = absurd p
-floor-next (inf s) p = absurd p
-floor-next (fin false m e) p = let h = cut-lt (m * up e) (down e) (down-pos e) in omega arith
-floor-next (fin true m e) p = let h = up-le (m * up e) (down e) (down-pos e) in omega arith
-
+-- so it is at most x, as floats
 pub floor-le : (x : Float) → T (finite x) → T (fits binary64 x) → T (le (floored x) x)
 floor-le x p t = vals→le (floored x) x _ _ 1 _ _ (den x) (zero-lt-suc 0) (den-pos x) (floor-is x p t) (own-val x p) (let h = floor-under x p in omega arith)
 

@@ -1,15 +1,32 @@
--- Quarter turns of samples and of lists of them: four are none, turns add, and turning respects numbers alike. Assumes nothing.
+-- Quarter turns of samples and of lists of them: two make the opposite, four are none, turns add, and turning respects numbers alike. Assumes nothing.
 use mathlib.Core.Path.{_≡_, refl, ap, _∙_}
 use mathlib.Core.List.{List, [], _∷_}
 use Prim.Native.Nat.{ℕ, zero, suc, _+_, _*_, _/_, _%_}
 use native.Mathlib.Nat.{zero-add, suc-add}
 use native.Mathlib.Omega.{arith}
+use mathlib.Core.Bool.{_&&_}
+use lib.Dec.{T}
+use lib.Ieee.{neg, eq, isNan}
+use Rattle.ieee.specs.Constants.{zero₀, one₀}
+use Rattle.ieee.specs.Alike.{sameNumber}
 use Rattle.ieee.proofs.Algebra.{neg-neg}
 use Rattle.ieee.proofs.Like.{like-refl, like-sym, like-trans, like-neg}
 use Rattle.types.specs.declared.sample.C32.{C32}
 use Rattle.types.specs.Each.{Each, none, more}
 use Rattle.types.specs.Turn.{turn, turns, turnsAll, AlikeSample, Turned, AllTurned}
 use Rattle.types.proofs.Laws.Each.{each-map}
+
+-- ---- which turn it is: two make the opposite, and of 1 it makes i
+pub turns-two : (z : C32) → turns 2 z ≡ record { re = neg (z .re); im = neg (z .im) }
+unfolding turns
+turns-two z = refl
+
+abbrev one : C32
+one = record { re = one₀; im = zero₀ }
+
+pub turn-of-one : T (sameNumber (turn one .re) zero₀ && sameNumber (turn one .im) one₀)
+unfolding neg eq isNan
+turn-of-one = tt
 
 -- ---- samples alike
 pub alike-refl : (z : C32) → AlikeSample z z
