@@ -6,10 +6,13 @@ interval: two whole numbers lo <= hi that stand for lo / 2**BITS and hi / 2**BIT
 true value in between. An entry is accepted only if both ends round to the same f32. Rounding
 to the nearest f32 is monotone, so the true value then rounds to it as well.
 
-    python3 cosine_table.py            writes cosine_table.txt beside this script
-    python3 cosine_table.py --check    compares that file with what is computed here
+    python3 cosine_table.py            writes the table's three files: cosine_table.txt beside
+                                       this script, the definition's list of bit patterns and
+                                       the code's array
+    python3 cosine_table.py --check    compares those files with what is computed here
 """
 
+import struct
 import sys
 from fractions import Fraction
 from pathlib import Path
@@ -17,7 +20,10 @@ from pathlib import Path
 TURN = 4096          # entries in a turn; entry TURN repeats entry 0
 BITS = 256           # places after the binary point of an interval's ends
 ONE = 1 << BITS
-FILE = Path(__file__).resolve().parent / "cosine_table.txt"
+HERE = Path(__file__).resolve().parent
+TEXT = HERE / "cosine_table.txt"
+LIST = HERE.parent / "crates" / "cosine" / "specs" / "Bits.antt"
+ARRAY = HERE.parent / "crates" / "tables" / "src" / "cosines.rt"
 
 
 def floor_div(a, b):
@@ -164,23 +170,78 @@ def check_rules(patterns):
 
 
 def as_text(patterns):
-    """The file: one word of eight hexadecimal digits a line."""
+    """The oracle's file: one word of eight hexadecimal digits a line."""
     return "".join(f"{b:08x}\n" for b in patterns)
+
+
+LIST_HEAD = """\
+-- "4,097 entries, entry j the f32 nearest to the cosine of j/4096 of a turn, entries 1024 and 3072 plus zero": their bit patterns, entry j at place j.
+-- Written by oracle/cosine_table.py. Definitions only.
+use Prim.Native.Nat.{ℕ}
+use mathlib.Core.List.{List, [], _∷_}
+
+unfoldable pub cosBits : List ℕ
+cosBits =
+"""
+
+
+def as_list(patterns):
+    """The definition's file: the bit patterns as whole numbers, 16 a line."""
+    rows = [patterns[i : i + 16] for i in range(0, len(patterns), 16)]
+    return LIST_HEAD + "".join("    " + "".join(f"{b} ∷ " for b in row).rstrip() + "\n" for row in rows)[:-1] + " []\n"
+
+
+ARRAY_HEAD = """\
+// The cosine table. Written by oracle/cosine_table.py.
+ghost use mathlib.Core.Path.{_≡_};
+ghost use Rattle.cosine.specs.Table.{cosList};
+
+// Entry j is the f32 nearest to the cosine of j/4096 of a turn; entries 1024 and 3072 are plus zero.
+const COS_F32: [f32; 4097] = [
+"""
+
+ARRAY_TAIL = """\
+];
+
+// The table. A constant array is stored anew wherever it is named, so a run takes it once and lends
+// it from then on.
+pub fn cos_f32() -> [f32; 4097]
+    ensures { λ r. ⌜ r ≡ cosList ⌝ }
+{
+    COS_F32
+}
+"""
+
+
+def decimal(bits):
+    """The shortest decimal that reads back as the f32 with these bits."""
+    value = struct.unpack(">f", struct.pack(">I", bits))[0]
+    for digits in range(1, 10):
+        near = float(f"{value:.{digits - 1}e}")
+        if struct.unpack(">I", struct.pack(">f", near))[0] == bits:
+            return repr(near)
+    raise SystemExit("cosine table: an entry that nine digits do not settle")
+
+
+def as_array(patterns):
+    """The code's file: decimals, one a line, as the formatter wants it."""
+    return ARRAY_HEAD + "".join(f"    {decimal(b)},\n" for b in patterns) + ARRAY_TAIL
 
 
 def main(arguments):
     patterns = list(bit_patterns())
     check_rules(patterns)
-    text = as_text(patterns)
-    if arguments == ["--check"]:
-        if FILE.read_text(encoding="ascii") != text:
-            raise SystemExit(f"cosine table: {FILE.name} differs from what is computed")
-        print(f"cosine table: {FILE.name} holds the {len(patterns)} entries computed")
-    elif not arguments:
-        FILE.write_text(text, encoding="ascii")
-        print(f"cosine table: {len(patterns)} entries written to {FILE.name}")
-    else:
+    files = {TEXT: as_text(patterns), LIST: as_list(patterns), ARRAY: as_array(patterns)}
+    if arguments not in ([], ["--check"]):
         raise SystemExit(__doc__)
+    for file, text in files.items():
+        if arguments == []:
+            file.write_text(text, encoding="utf-8")
+            print(f"cosine table: {len(patterns)} entries written to {file.name}")
+        elif file.read_text(encoding="utf-8") != text:
+            raise SystemExit(f"cosine table: {file.name} differs from what is computed")
+        else:
+            print(f"cosine table: {file.name} holds the {len(patterns)} entries computed")
 
 
 if __name__ == "__main__":

@@ -8,6 +8,7 @@ use native.Mathlib.Omega.{arith}
 use mathlib.Core.Bool.{Bool, true, false}
 use lib.IntN.{ℤ, pos, negsuc}
 use lib.Dec.{T, ltb, ltb→lt, not-T}
+use lib.Pow.{pow-pos}
 use lib.Ieee.{Float, nan, inf, fin, Format, prec, emax, low, up, down, round, sum, sub, mul, fits}
 use lib.Ieee.Fits.{down-pos, round-fits}
 use lib.Ieee.Back.{round-whole}
@@ -19,7 +20,7 @@ use Rattle.ieee.specs.Constants.{zero₀, half₀, two₀}
 use Rattle.ieee.specs.Alike.{Alike}
 use Rattle.ieee.specs.Fraction.{plus, less}
 use Rattle.ieee.proofs.Round.{round-zero}
-use Rattle.ieee.proofs.Like.{add-fin}
+use Rattle.ieee.proofs.Like.{add-fin, mul-fin}
 use Rattle.ieee.proofs.Test.{order}
 use Rattle.ieee.proofs.Order.{Val, has-val, val-same, one-part, between}
 use Rattle.ieee.proofs.Rounds.{Rounds, high, deep, rounds-same, mul-rounds}
@@ -105,6 +106,14 @@ round-own f s m e t =
     let k = fits-parts f s m e t in
     value-unique f (round f s (m * up e) (down e)) (fin s m e) s (m * up e) (down e) (m * up e) (down e) (down-pos e) (down-pos e)
     (round-fits f s (m * up e) (down e)) t (on-grid f s m e (k .0) (k .1) (k .2)) (refl, refl) refl
+
+-- a whole number n times 2 ^ -(k + 1) is the fraction n / 2 ^ (k + 1), rounded once
+pub whole-scaled : (f : Format) (v : Float) (n k : ℕ) → HasValue v false n 1 → mul f v (fin false 1 (negsuc k)) ≡ round f false n (2 ^ suc k)
+whole-scaled f (fin true m e) n k h = absurd (subst T (h .0) tt)
+whole-scaled f (fin false m e) n k h =
+    let w = 2 ^ suc k in
+    mul-fin f false false m 1 e (negsuc k)
+    ∙ round-same f false (m * up e * (1 * 1)) (down e * w) n w (mul-pos (down-pos e) (pow-pos (suc k))) (pow-pos (suc k)) (ap (λ (z : ℕ). z * w) (h .1) ∙ mul-assoc n (down e) w)
 
 none-off : (f : Format) (s : Bool) (a c : ℕ) → sum f s (a * 1) true 0 (c * 1) ≡ round f s a c
 unfolding sum

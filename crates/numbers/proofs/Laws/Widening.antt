@@ -13,7 +13,7 @@ use lib.Ieee.Bits.{ofBits-fits, ofBits-toBits}
 use lib.Ieee.Exact.{HasValue, round-exact}
 use lib.Ieee.Fits.{down-pos, mul-fits, fits-widens}
 use lib.Ieee.Scale.{round-same}
-use Rattle.ieee.proofs.Like.{mul-fin}
+use Rattle.ieee.proofs.Exact.{whole-scaled}
 use Rattle.ieee.proofs.Unique.{value-unique}
 use Rattle.ieee.proofs.Bits.{low-value, normal-value, infinite-bits, unsigned}
 
@@ -22,19 +22,15 @@ use Rattle.ieee.proofs.Bits.{low-value, normal-value, infinite-bits, unsigned}
 abbrev pub smallest : Float
 smallest = fin false 1 (negsuc 148)
 
-product : (v : Float) (n : ℕ) → n < 2 ^ 23 → HasValue v false n 1 → HasValue (mul binary64 v smallest) false n (2 ^ 149)
-product (fin false m e) n h k =
-    rw (mul-fin binary64 false false m 1 e (negsuc 148), round-same binary64 false (m * up e * (1 * 1)) (down e * 2 ^ 149) n (2 ^ 149) (mul-pos (down-pos e) (pow-pos 149)) (pow-pos 149) (ap (λ (z : ℕ). z * 2 ^ 149) (k .1) ∙ mul-assoc n (down e) (2 ^ 149)))
-    (round-exact binary64 false n (2 ^ 149) n 925 (pow-pos 149) (lt-of-lt-of-le h (pow-mono {i = 23} {j = 53} (omega arith))) (lt-of-lt-of-le (mul-lt-mul-of-pos-right h (pow-pos 925)) (pow-mono {i = 948} {j = 2098} (omega arith))) (sym (mul-assoc n (2 ^ 925) (2 ^ 149))))
-product (fin true m e) n h k = absurd (subst T (k .0) tt)
-
 -- n of these, as the code makes it
 abbrev pub counted : ℕ → Float
 counted n = mul binary64 (round binary64 false n 1) smallest
 
 module _ (n : ℕ) (h : n < 2 ^ 23) where
   counted-value : HasValue (counted n) false n (2 ^ 149)
-  counted-value = product (round binary64 false n 1) n h (round-whole binary64 false n (omega arith))
+  counted-value =
+      rw (whole-scaled binary64 (round binary64 false n 1) n 148 (round-whole binary64 false n (omega arith)))
+      (round-exact binary64 false n (2 ^ 149) n 925 (pow-pos 149) (lt-of-lt-of-le h (pow-mono {i = 23} {j = 53} (omega arith))) (lt-of-lt-of-le (mul-lt-mul-of-pos-right h (pow-pos 925)) (pow-mono {i = 948} {j = 2098} (omega arith))) (sym (mul-assoc n (2 ^ 925) (2 ^ 149))))
 
   counted-fits : T (fits binary64 (counted n))
   counted-fits = mul-fits binary64 (round binary64 false n 1) smallest

@@ -1,0 +1,20 @@
+-- The low 20 bits of a phase over 2^20: a product with 2^-20 gives it. Assumes nothing.
+use mathlib.Core.Path.{_≡_}
+use Prim.Native.Nat.{ℕ, _%_, _^_, _<_}
+use native.Mathlib.Omega.{arith}
+use native.Mathlib.Nat.{le-trans, le-of-lt, mod-lt}
+use mathlib.Core.Bool.{false}
+use lib.Dec.{T, ltb, leb, ltb→lt, leb→le, le→leb}
+use lib.IntN.{pos, negsuc}
+use lib.Ieee.{fin, binary32, round, mul, inFloat}
+use lib.Ieee.Back.{round-whole}
+use Rattle.ieee.proofs.Exact.{whole-scaled}
+use Rattle.mix.specs.Oscillator.{fraction}
+
+pub fraction-is : (a : ℕ) → a < 2 ^ 20 → mul binary32 (round binary32 false a 1) (fin false 1 (negsuc 19)) ≡ fraction a
+fraction-is a h = whole-scaled binary32 (round binary32 false a 1) a 19 (round-whole binary32 false a (omega arith))
+
+-- what is left over by k is a whole number that an f32 holds
+pub rest-float : (p k : ℕ) → T (ltb 0 k) → T (leb k (2 ^ 24)) → T (inFloat binary32 (pos (p % k)))
+unfolding inFloat
+rest-float p k h l = le→leb (p % k) (2 ^ 24) (le-trans (le-of-lt (mod-lt p (ltb→lt 0 k h))) (leb→le k (2 ^ 24) l))

@@ -1,0 +1,29 @@
+-- "idx is the top 12 phase bits, f the low 20 over 2^20; c = a + (b - a) × f over entries idx, idx + 1; s likewise at (idx + 3072) mod 4096." Definitions only.
+use Prim.Native.Nat.{ℕ, _+_, _/_, _%_, _^_}
+use mathlib.Core.Bool.{false}
+use mathlib.Core.List.{List}
+use lib.ListN.{getD}
+use lib.Ieee.{Float, nan, binary32, round, add, sub, mul}
+use Rattle.mix.specs.declared.Pair.{Pair}
+
+-- a / 2^20, which an f32 holds for an a below 2^20
+abbrev pub fraction : ℕ → Float
+fraction a = round binary32 false a (2 ^ 20)
+
+-- between the entries idx and idx + 1 of the table, at the fraction f of the way
+abbrev pub between : List Float → ℕ → Float → Float
+between table idx f =
+    let a = getD table idx nan in
+    let b = getD table (idx + 1) nan in
+    add binary32 a (mul binary32 (sub binary32 b a) f)
+
+-- the index a quarter turn before
+abbrev pub quarterBefore : ℕ → ℕ
+quarterBefore idx = (idx + 3072) % 4096
+
+-- cosine and sine of the phase p
+abbrev pub pairAt : List Float → ℕ → Pair
+pairAt table p =
+    let idx = p / 2 ^ 20 in
+    let f = fraction (p % 2 ^ 20) in
+    record { c = between table idx f; s = between table (quarterBefore idx) f }
