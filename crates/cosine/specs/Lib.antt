@@ -1,2 +1,5 @@
 pub mod Bits
 pub mod Table
+pub mod Rules
+pub mod Cosine
+pub mod Nearest

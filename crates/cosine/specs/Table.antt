@@ -1,4 +1,4 @@
--- The cosine table as floats. Definitions only.
+-- The cosine table: entry j stands for the cosine of j/4096 of a turn. Definitions only.
 use Prim.Native.Nat.{ℕ}
 use mathlib.Core.List.{List, map}
 use lib.ListN.{getD}
@@ -8,5 +8,6 @@ use Rattle.cosine.specs.Bits.{cosBits}
 unfoldable pub cosList : List Float
 cosList = map (ofBits binary32) cosBits
 
-unfoldable pub cosAt : ℕ → Float
+-- entry j, read as a lent array is: past the end there is a NaN
+abbrev pub cosAt : ℕ → Float
 cosAt j = getD cosList j nan

@@ -1,1 +1,1 @@
-// The cosine table, its rules, and that its entries are the nearest f32 to the true cosines: see specs/ and proofs/. There is no code.
+// The cosine table as a definition, its rules, and that each entry is the f32 nearest to the true cosine: see specs/ and proofs/. There is no code.

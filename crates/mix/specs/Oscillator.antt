@@ -4,7 +4,7 @@ use mathlib.Core.Bool.{false}
 use mathlib.Core.List.{List}
 use lib.ListN.{getD}
 use lib.Ieee.{Float, nan, binary32, round, add, sub, mul}
-use Rattle.mix.specs.declared.Pair.{Pair}
+use Rattle.mix.specs.declared.oscillator.Pair.{Pair}
 
 -- a / 2^20, which an f32 holds for an a below 2^20
 abbrev pub fraction : ℕ → Float

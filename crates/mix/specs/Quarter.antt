@@ -5,7 +5,7 @@ use lib.ListN.{getD}
 use lib.Ieee.{Float, nan}
 use Rattle.ieee.specs.Alike.{Opposite}
 use Rattle.types.specs.declared.sample.C32.{C32}
-use Rattle.mix.specs.declared.Pair.{Pair}
+use Rattle.mix.specs.declared.oscillator.Pair.{Pair}
 
 -- the phase p, m quarter turns on, modulo 2^32
 abbrev pub quartersOn : ℕ → ℕ → ℕ

@@ -13,7 +13,7 @@ use Rattle.ieee.proofs.Test.{order}
 use Rattle.ieee.proofs.Like.{likes, like-sym, like-flip, like-of-eq}
 use Rattle.types.specs.Turn.{turns, Turned}
 use Rattle.types.proofs.Laws.Turn.{alike-refl, turned-add}
-use Rattle.mix.specs.declared.Pair.{Pair}
+use Rattle.mix.specs.declared.oscillator.Pair.{Pair}
 use Rattle.mix.specs.Oscillator.{fraction, between, quarterBefore, pairAt}
 use Rattle.mix.specs.Quarter.{quartersOn, sampleOf, OppositeHalves}
 

@@ -1,4 +1,4 @@
--- `mix::interp_f32_pair` meets its contract: the indices lie inside the table, and the fraction is the definition's. Assumes nothing.
+-- `mix::oscillator::interp_f32_pair` meets its contract: the indices lie inside the table, and the fraction is the definition's. Assumes nothing.
 use mathlib.Core.Path.{ap}
 use Prim.Native.Nat.{_/_, _%_, _^_}
 use native.Mathlib.Omega.{arith}
@@ -6,8 +6,8 @@ use lib.Ieee.{Float, ofBits, ofInt}
 use borrow.Author.Needs.{needs}
 use Rattle.mix.specs.Oscillator.{between, quarterBefore}
 use Rattle.mix.proofs.Laws.Fraction.{fraction-is, rest-float}
-use Rattle.mix.proofs.interp_f32_pair.Statement.{statement}
-use Rattle.mix.proofs.interp_f32_pair.Tie as tie
+use Rattle.mix.proofs.oscillator.interp_f32_pair.Statement.{statement}
+use Rattle.mix.proofs.oscillator.interp_f32_pair.Tie as tie
 
 cast-idx : tie.Need-cast-idx
 cast-idx c = search needs

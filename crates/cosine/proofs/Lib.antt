@@ -1,0 +1,7 @@
+pub mod Along
+pub mod Rules
+pub mod System
+pub mod Doubling
+pub mod Gap
+pub mod Nearest
+pub mod Once
