@@ -26,7 +26,7 @@ const TREE: [(&str, &[&str], &[&str]); 4] = [
         &[],
         &["symbol_sync", "costas", "mix", "modulate"],
     ),
-    ("reference", &[], &["symbol_sync", "costas"]),
+    ("reference", &["open"], &["symbol_sync", "costas"]),
 ];
 
 fn main() {

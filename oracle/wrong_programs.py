@@ -1,7 +1,7 @@
 #!/usr/bin/env python3
 """Runs each wrong program of a crate against the recorded answers.
 
-    python3 wrong_programs.py CRATE PROGRAM      as: numbers numbers_replay
+    python3 wrong_programs.py CRATE PROGRAM      as: numbers operations_replay
 
 The prover refuses each edit of crates/CRATE/must-fail. A refusal alone does not show that the
 edited program is wrong: another right program would not fit its proof either. So this applies
@@ -38,7 +38,10 @@ def apply(text, pairs):
 def first_miss(copy, program):
     """The first recorded line whose answer differs in the compiled program, or none."""
     run = subprocess.run(["rt", "try", program], cwd=copy, capture_output=True, text=True)
-    found = re.search(r"FAIL: the native program.*?(computed [0-9a-f]+ for [0-9a-z ]+)", run.stdout + run.stderr, re.S)
+    said = run.stdout + run.stderr
+    if "the native program" not in said:
+        sys.exit(f"{program} was not compiled: {said}")
+    found = re.search(r"FAIL: the native program.*?(computed [0-9a-f]+ for [a-z][0-9a-f ]+)", said, re.S)
     return found and found.group(1)
 
 

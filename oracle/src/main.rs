@@ -13,7 +13,10 @@ include!(concat!(env!("OUT_DIR"), "/original.rs"));
 mod bits;
 mod compare;
 mod fields;
+mod floats;
+mod lines;
 mod numbers;
+mod oscillator;
 mod play;
 mod random;
 mod refusal;
@@ -28,13 +31,19 @@ const USAGE: &str = "\
 usage: oracle play [--reference] SCRIPT   plays a script ('-' reads standard input)
        oracle compare [--seed S] [--symbols N]
        oracle numbers                     writes the recorded answers of the number operations
+       oracle oscillator                  writes those of the oscillator and the phase steps
        oracle record FOLDER               writes all recorded answers, FOLDER/NAME/stdin each";
 
 /// Makes the text of one file of recorded answers.
 type Make = fn() -> String;
 
 /// Recorded answers: the folder that each file goes to, and what makes it.
-const RECORDED: [(&str, Make); 1] = [("numbers_replay", numbers::recorded)];
+const RECORDED: [(&str, Make); 1] = [("operations_replay", operations)];
+
+/// The recorded answers of all operations that are one line each.
+fn operations() -> String {
+    numbers::recorded() + &oscillator::recorded()
+}
 
 fn main() -> ExitCode {
     let words: Vec<String> = std::env::args().skip(1).collect();
@@ -44,6 +53,7 @@ fn main() -> ExitCode {
         ["play", "--reference", script] => play_file(Reference, script),
         ["compare", ref options @ ..] => compare_as_asked(options),
         ["numbers"] => write_out(&numbers::recorded()),
+        ["oscillator"] => write_out(&oscillator::recorded()),
         ["record", folder] => record(Path::new(folder)),
         _ => Err(USAGE.to_string()),
     };

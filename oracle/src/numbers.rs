@@ -1,9 +1,8 @@
 //! The recorded answers of the number operations, for the replay of the ported ones. README.md
 //! describes the lines.
 
-use std::collections::HashSet;
-
-use crate::bits::{bits32, bits64};
+use crate::bits::bits64;
+use crate::lines::{Lines, wide};
 use crate::num::{flush_denormal, flush_denormal_f64};
 use crate::random::Random;
 
@@ -44,12 +43,7 @@ pub fn recorded() -> String {
     for x in doubles::for_finite(&mut random) {
         lines.add('j', bits64(x), 0, u64::from(x.is_finite()));
     }
-    lines.text
-}
-
-/// An f32's bits in the low half of a wide word.
-fn wide(x: f32) -> u64 {
-    u64::from(bits32(x))
+    lines.into_text()
 }
 
 /// The limit as a set frequency gets it. With a limit of zero the sign of the zero that comes
@@ -71,21 +65,6 @@ fn limit64(x: f64, limit: f64) -> f64 {
     let limited = x.max(-limit).min(limit);
     assert_eq!(limited.to_bits(), x.clamp(-limit, limit).to_bits());
     limited
-}
-
-/// The lines so far, none of them twice.
-#[derive(Default)]
-struct Lines {
-    text: String,
-    seen: HashSet<(char, u64, u64)>,
-}
-
-impl Lines {
-    fn add(&mut self, letter: char, x: u64, y: u64, result: u64) {
-        if self.seen.insert((letter, x, y)) {
-            self.text += &format!("{letter} {x:016x} {y:016x} {result:016x}\n");
-        }
-    }
 }
 
 #[cfg(test)]

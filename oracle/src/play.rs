@@ -12,15 +12,13 @@ use crate::fields::state_line;
 use crate::kernels::costas::{Costas, CostasConstellation, CostasState};
 use crate::kernels::symbol_sync::{SymbolSync, SymbolSyncState, Ted};
 use crate::num::{flush_denormal, flush_denormal_f64};
+use crate::oscillator::TURN;
 use crate::refusal;
 use crate::types::C32;
 
 /// What a script is played against: `Fallback` or `Reference`.
 pub trait Kernel: SymbolSync<f32> + SymbolSync<C32> + Costas {}
 impl<K: SymbolSync<f32> + SymbolSync<C32> + Costas> Kernel for K {}
-
-/// One turn of phase.
-const TURN: f64 = 4_294_967_296.0;
 
 /// An answer, or what is wrong with the script.
 type Answer = Result<String, String>;

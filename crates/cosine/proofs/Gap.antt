@@ -4,7 +4,7 @@ use mathlib.Core.Path.{_≡_, refl, sym, ap, _∙_, subst}
 use mathlib.Core.Logic.{_⊎_, inl, inr}
 use mathlib.Core.Bool.{true, false}
 use Prim.Native.Nat.{ℕ, zero, suc, _+_, _-_, _*_, _^_, _≤_, _<_}
-use native.Mathlib.Nat.{lt-irrefl, lt-of-not-le, not-le-of-lt, mul-assoc, mul-le-mul-right, mul-lt-mul-of-pos-right, lt-of-mul-lt-mul-right, pow-succ'}
+use native.Mathlib.Nat.{lt-irrefl, mul-assoc, mul-le-mul-right, mul-lt-mul-of-pos-right, lt-of-mul-lt-mul-right, pow-succ'}
 use native.Mathlib.Omega.{arith}
 use lib.IntN.{pos, negsuc}
 use lib.Dec.{T}
@@ -15,7 +15,7 @@ use lib.Ieee.Positive.{den, den-pos}
 use Rattle.ieee.specs.Fraction.{plus, less}
 use Rattle.ieee.proofs.Test.{order}
 use Rattle.ieee.proofs.Order.{products, Val, one-part, lt→cross}
-use Rattle.ieee.proofs.Held.{fits-parts, pow-back}
+use Rattle.ieee.proofs.Held.{fits-parts, pow-back, pow-below}
 
 -- ---- a value of the format is a whole number of 1 / 2^k, or less than 2^(prec - 1) of them
 data Placed (f : Format) (x : Float) (k : ℕ) : Type 0 where
@@ -46,7 +46,7 @@ tiny f m i k a h = go (2 ^ k) (2 ^ suc i) (hid f) (twice f) (pow-pos k) (subst (
     twice binary64 = refl
 
     exponents : suc k ≤ suc i
-    exponents = lt-of-not-le (λ (g : suc i ≤ k). not-le-of-lt h (pow-mono g))
+    exponents = pow-below k (suc i) h
 
     go : (K I w : ℕ) → 2 ^ prec f ≡ 2 * w → 0 < K → 2 * K ≤ I → m * K < w * I
     go K I w e p g =

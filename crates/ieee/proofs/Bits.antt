@@ -1,17 +1,20 @@
 -- A float by its bits: the value that the bits below the sign stand for, and what the sign adds. Every law is over the format. Assumes nothing.
 use mathlib.Core.Path.{_≡_, refl, sym, ap, _∙_, subst}
-use Prim.Native.Nat.{ℕ, zero, suc, _+_, _*_, _/_, _%_, _^_, _≤_, _<_}
-use native.Mathlib.Nat.{lt-irrefl, mul-one, div-add-mod', mod-lt, div-lt-iff-lt-mul}
+use mathlib.Core.Logic.{inl, inr}
+use Prim.Native.Nat.{ℕ, zero, suc, _+_, _-_, _*_, _/_, _%_, _^_, _≤_, _<_}
+use native.Mathlib.Nat.{lt-irrefl, lt-trans, eq-or-lt-of-le, zero-lt-suc, pow-suc, suc-mul, mul-one, div-add-mod', mod-lt, div-lt-iff-lt-mul}
 use native.Mathlib.Omega.{arith}
 use mathlib.Core.Bool.{Bool, true, false, not, cond}
 use lib.IntN.{ℤ}
-use lib.Dec.{T, leb, eqb, eqb→eq, nltb→le, not-T}
+use lib.Dec.{T, leb, eqb, eqb→eq, nltb→le, not-T, lit<}
+use lib.Pow.{pow-pos}
 use lib.Ieee.{Float, nan, inf, fin, Format, binary32, binary64, prec, low, odd, neg, fits, isNan, hid, ones, top, ofFields, ofBits, toBits}
 use lib.Ieee.Fits.{neg-fits}
 use lib.Ieee.Exact.{HasValue, odd-sign}
-use lib.Ieee.Bits.{ofBits-toBits, toBits-lt, nanBits-is, nanBits-above, is-false}
+use lib.Ieee.Bits.{ofBits-toBits, ofBits-fits, toBits-ofBits, toBits-lt, nanBits-is, nanBits-above, is-false}
 use borrow.Author.Tests.{le-leb, lt-leb}
 use Rattle.ieee.proofs.Round.{odd-neg}
+use Rattle.ieee.proofs.Unique.{value-unique}
 
 -- ---- the bits below the sign: the exponent's field x and the digits t
 no-sign : (f : Format) (x t : ℕ) → x ≤ ones f → t < hid f → leb (top f) (x * hid f + t) ≡ false
@@ -109,3 +112,38 @@ parts f x h =
 
 pub size-le : (f : Format) (x : Float) → T (fits f x) → T (not (isNan x)) → toBits f x % top f ≤ ones f * hid f
 size-le f x h n = nltb→le (ones f * hid f) (toBits f x % top f) (subst (λ (b : Bool). T (not b)) (ap isNan (sym (ofBits-toBits f x h)) ∙ sym (nanBits-is f (toBits f x)) ∙ nanBits-above f (toBits f x)) n)
+
+-- ---- a whole number from hid to its double, hid + t: at the double the digits carry into the field
+pub value-number : (v : Float) (s : Bool) (a c : ℕ) → HasValue v s a c → T (not (isNan v))
+unfolding isNan
+value-number (fin t m e) s a c h = tt
+
+bits-of : (f : Format) (x : Float) (n y t : ℕ) → T (fits f x) → HasValue x false n 1 → suc y < ones f → t < hid f → n * 2 ^ low f ≡ (hid f + t) * 2 ^ y → toBits f x ≡ suc y * hid f + t
+bits-of f x n y t h v g k e =
+    let b = suc y * hid f + t in
+    let w = normal-value f y t g k in
+    ap (toBits f) (value-unique f x (ofBits f b) false n 1 ((hid f + t) * 2 ^ y) (2 ^ low f) (zero-lt-suc 0) (pow-pos (low f)) h (ofBits-fits f b) v w (e ∙ sym (mul-one ((hid f + t) * 2 ^ y))))
+    ∙ toBits-ofBits f b (within f g k) (value-number (ofBits f b) false _ _ w)
+  where
+    within : (f : Format) → suc y < ones f → t < hid f → suc y * hid f + t < 2 * top f
+    within binary32 g k = omega arith
+    within binary64 g k = omega arith
+
+pub whole-bits : (f : Format) (x : Float) (t : ℕ) → T (fits f x) → HasValue x false (hid f + t) 1 → t ≤ hid f → toBits f x ≡ suc (low f) * hid f + t
+whole-bits f x t h v k = elim (eq-or-lt-of-le k) [
+  | inl e ↦ bits-of f x (hid f + t) (suc (low f)) 0 h v (room f) (pow-pos (prec f - 1)) (twice (hid f) (2 ^ low f) (2 ^ suc (low f)) (pow-suc 2 (low f)) e) ∙ carry (low f) (hid f) e
+  | inr l ↦ bits-of f x (hid f + t) (low f) t h v (lt-trans (next (low f)) (room f)) l refl
+]
+  where
+    room : (f : Format) → suc (suc (low f)) < ones f
+    room binary32 = lit< tt
+    room binary64 = lit< tt
+
+    next : (l : ℕ) → suc l < suc (suc l)
+    next l = omega arith
+
+    twice : (w l k : ℕ) → k ≡ l * 2 → t ≡ w → (w + t) * l ≡ (w + 0) * k
+    twice w l k e g = rw (e, g) (omega arith)
+
+    carry : (l w : ℕ) → t ≡ w → suc (suc l) * w + 0 ≡ suc l * w + t
+    carry l w e = rw e (let a = suc-mul (suc l) w in omega arith)

@@ -39,7 +39,7 @@ closest-error a b B = go (compare (a % b * 2) b) (compared (a % b * 2) b)
 
 -- ---- one rounding, counted in the format's smallest values
 -- `round` drops no more than j places of a fraction below 2 ^ (prec + j)
-drop-le : (p n c j : ℕ) → 0 < c → n < 2 ^ (p + j) * c → drop p n c ≤ j
+pub drop-le : (p n c j : ℕ) → 0 < c → n < 2 ^ (p + j) * c → drop p n c ≤ j
 drop-le p n c j C h = spare (size (n / c)) (size-le (n / c) (p + j) (div-lt-iff-lt-mul C .1 h))
   where
     spare : (z : ℕ) → z ≤ p + j → z - p ≤ j

@@ -3,16 +3,16 @@
 use mathlib.Core.Path.{_≡_, refl, sym, ap, _∙_, subst}
 use mathlib.Core.Logic.{_⊎_, inl, inr}
 use Prim.Native.Nat.{ℕ, zero, suc, _+_, _-_, _*_, _^_, _≤_, _<_}
-use native.Mathlib.Nat.{sub-zero, zero-mul, eq-of-mul-eq-mul-right, zero-lt-suc, add-mul, mul-one, one-mul, mul-zero, mul-suc, add-zero, zero-add, mul-assoc, mul-right-comm, mul-pos, pow-suc, pow-succ', mul-lt-mul-of-pos-right, lt-of-mul-lt-mul-right, le-trans, le-of-eq}
+use native.Mathlib.Nat.{sub-zero, zero-mul, eq-of-mul-eq-mul-right, zero-lt-suc, add-mul, mul-one, one-mul, mul-zero, mul-suc, add-zero, zero-add, mul-assoc, mul-right-comm, mul-pos, pow-suc, pow-succ', mul-lt-mul-of-pos-right, lt-of-mul-lt-mul-right, lt-of-lt-of-le, le-trans, le-of-eq}
 use native.Mathlib.Omega.{arith}
 use mathlib.Core.Bool.{Bool, true, false}
 use lib.IntN.{ℤ, pos, negsuc}
 use lib.Dec.{T, ltb, ltb→lt, not-T}
-use lib.Pow.{pow-pos}
+use lib.Pow.{pow-add, pow-pos, pow-mono, shl-lt}
 use lib.Ieee.{Float, nan, inf, fin, Format, prec, emax, low, up, down, round, sum, sub, mul, fits}
-use lib.Ieee.Fits.{down-pos, round-fits}
+use lib.Ieee.Fits.{reach, down-pos, round-fits}
 use lib.Ieee.Back.{round-whole}
-use lib.Ieee.Exact.{HasValue}
+use lib.Ieee.Exact.{HasValue, round-exact}
 use lib.Ieee.Bits.{is-false}
 use lib.Ieee.Scale.{finite, round-same}
 use lib.Ieee.Positive.{den, den-pos}
@@ -78,6 +78,15 @@ zero-exact f c C s = rw (round-zero f s c C) (refl, omega arith)
 pub whole-exact : (f : Format) (n : ℕ) → n ≤ 2 ^ prec f → Exact f n 1
 whole-exact f n h s = round-whole f s n h
 
+-- such a number of parts of 2 ^ -l
+pub parts-exact : (f : Format) (n l : ℕ) → n < 2 ^ prec f → l ≤ low f → Exact f n (2 ^ l)
+parts-exact f n l h L s =
+    let j = low f - l in
+    let J : j + l ≡ low f = omega arith in
+    round-exact f s n (2 ^ l) n j (pow-pos l) h
+    (lt-of-lt-of-le (shl-lt (prec f) j h) (pow-mono (let r = reach f in omega arith)))
+    (ap (λ (z : ℕ). n * 2 ^ z) (sym J) ∙ ap (λ (z : ℕ). n * z) (pow-add 2 j l) ∙ sym (mul-assoc n (2 ^ j) (2 ^ l)))
+
 pub rounds-whole : (f : Format) (z : Float) (p n : ℕ) → p ≤ n + 2 ^ prec f → n ≤ p + 2 ^ prec f → Rounds f z p n 1 → Val z p n 1
 rounds-whole f z p n h k r = rounds-exact f z p n 1 (λ l. whole-exact f (p - n) (omega arith)) (λ l. whole-exact f (n - p) (omega arith)) r
 
@@ -88,7 +97,7 @@ whole-held f a b h k = elim (order a b) [
   | inr l ↦ let r = a - b in let y = round f false r 1 in (y, round-fits f false r 1, val-same y r 0 1 a b (omega arith) (has-val y false r 1 (round-whole f false r (omega arith))))
 ]
 
-same-value : (x : Float) (s : Bool) (a c b d : ℕ) → 0 < c → a * d ≡ b * c → HasValue x s a c → HasValue x s b d
+pub same-value : (x : Float) (s : Bool) (a c b d : ℕ) → 0 < c → a * d ≡ b * c → HasValue x s a c → HasValue x s b d
 same-value nan s a c b d C h v = absurd v
 same-value (inf t) s a c b d C h v = absurd v
 same-value (fin t m e) s a c b d C h v = (v .0, eq-of-mul-eq-mul-right c C (m * up e * d) (b * down e) (cross (m * up e) (down e) (v .1)))

@@ -2,12 +2,12 @@
 -- Assumes nothing.
 use mathlib.Core.Path.{_≡_, refl, sym, ap, _∙_, subst}
 use Prim.Native.Nat.{ℕ, zero, suc, _+_, _-_, _*_, _^_, _≤_, _<_, _%_}
-use native.Mathlib.Nat.{pow-succ', mul-le-mul-right, mul-comm, mul-left-comm, le-trans, le-of-eq, le-of-eq, le-of-suc-le-suc, not-le-of-lt, lt-of-not-le, zero-lt-suc, mul-one, mul-comm, mul-assoc, mul-left-comm, lt-of-mul-lt-mul-right, mul-lt-mul-of-pos-right, mul-pos}
+use native.Mathlib.Nat.{pow-succ', mul-le-mul-right, mul-comm, mul-left-comm, le-trans, le-of-eq, le-of-suc-le-suc, not-le-of-lt, lt-of-not-le, zero-lt-suc, mul-one, mul-assoc, lt-of-mul-lt-mul-right, mul-lt-mul-of-pos-right, mul-pos}
 use native.Mathlib.Omega.{arith}
 use mathlib.Core.Bool.{Bool, true, false, _&&_}
 use lib.IntN.{ℤ, pos, negsuc}
 use lib.Dec.{T, ltb, leb, eqb, eqb→eq, ltb→lt, leb→le}
-use lib.Pow.{pow-add, pow-pos, pow-lt}
+use lib.Pow.{pow-add, pow-pos, pow-mono, pow-lt}
 use lib.Ieee.{Float, nan, inf, fin, Format, prec, emax, low, up, down, round, le, fits}
 use lib.Ieee.Fits.{and-l, and-r}
 use lib.Ieee.Exact.{HasValue, round-exact}
@@ -42,6 +42,9 @@ fits-parts f s (suc m) e t =
 
 pub pow-back : (i j : ℕ) → 2 ^ i ≤ 2 ^ j → i ≤ j
 pow-back i j h = le-of-suc-le-suc (lt-of-not-le (λ (g : suc j ≤ i). not-le-of-lt (pow-lt g) h))
+
+pub pow-below : (i j : ℕ) → 2 ^ i < 2 ^ j → i < j
+pow-below i j h = lt-of-not-le (λ (g : j ≤ i). not-le-of-lt h (pow-mono g))
 
 -- m * 2 ^ e and any whole multiple of 2 ^ e that is no larger are on the format's grid
 pub on-grid : (f : Format) (s : Bool) (m : ℕ) (e : ℤ) → m < 2 ^ prec f → down e ≤ 2 ^ low f → m * up e < 2 ^ suc (emax f) * down e → HasValue (round f s (m * up e) (down e)) s (m * up e) (down e)

@@ -15,3 +15,4 @@ pub mod Exact
 pub mod Mono
 pub mod Apart
 pub mod Error
+pub mod Even

@@ -6,6 +6,7 @@ use lib.Dec.{T}
 use lib.Ieee.{Float, nan, inf, fin, Format, isNan, ne, hid, ones, top, ofBits, nanBits}
 use lib.Ieee.Bits.{nanBits-is, nanBits-above}
 use lib.Ieee.Compare.{differs-from-itself, nan-differs}
+use lib.Ieee.Scale.{finite}
 use borrow.Author.Tests.{lt-ltb, le-ltb}
 
 pub is-nan : (x : Float) → ne x x ≡ true → x ≡ nan
@@ -20,6 +21,10 @@ unfolding isNan
 differs-is nan = nan-differs
 differs-is (inf s) = equals-itself (inf s) _ refl (λ e. absurd (subst (λ (x : Float). T (not (isNan x))) e tt))
 differs-is (fin s m e) = equals-itself (fin s m e) _ refl (λ e. absurd (subst (λ (x : Float). T (not (isNan x))) e tt))
+
+pub finite-not-nan : (x : Float) → T (finite x) → T (not (isNan x))
+unfolding isNan
+finite-not-nan (fin s m e) p = tt
 
 pub not-nan : (x : Float) → ne x x ≡ false → T (not (isNan x))
 not-nan x h = subst (λ (b : Bool). T (not b)) (sym h ∙ differs-is x) tt

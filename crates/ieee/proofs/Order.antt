@@ -2,13 +2,13 @@
 -- Assumes nothing.
 use mathlib.Core.Path.{_≡_, refl, sym, ap, subst}
 use mathlib.Core.Logic.{_⊎_, inl, inr}
-use Prim.Native.Nat.{ℕ, _+_, _*_, _≤_, _<_}
-use native.Mathlib.Nat.{le-of-eq, le-of-lt, le-antisymm, not-le-of-lt, lt-of-not-le, lt-irrefl, add-mul, mul-add, mul-comm, mul-assoc, mul-left-comm, mul-le-mul-right, le-of-mul-le-mul-right, mul-pos}
+use Prim.Native.Nat.{ℕ, _+_, _-_, _*_, _≤_, _<_}
+use native.Mathlib.Nat.{le-of-eq, le-of-lt, le-antisymm, not-le-of-lt, lt-of-not-le, lt-irrefl, add-mul, mul-add, mul-comm, mul-assoc, mul-left-comm, mul-le-mul-right, mul-lt-mul-of-pos-right, le-of-mul-le-mul-right, mul-pos}
 use native.Mathlib.Omega.{arith}
 use mathlib.Core.Bool.{Bool, true, false, not, _&&_, _||_, cond}
 use lib.Dec.{T, T-not, ltb, eqb, eqb→eq, ltb→lt, lt→ltb, nltb→le}
 use lib.Ieee.{Float, nan, inf, fin, up, down, neg, le, lt, eq}
-use lib.Ieee.Fits.{and-l, and-r, and-i, eq→eqb}
+use lib.Ieee.Fits.{and-l, and-r, and-i, eq→eqb, down-pos}
 use lib.Ieee.Exact.{HasValue}
 use lib.Ieee.Scale.{finite}
 use lib.Ieee.Positive.{den, den-pos}
@@ -19,6 +19,16 @@ use Rattle.ieee.proofs.Compare.{eq-swap}
 
 -- products multiplied out and put in one order, so that omega can take each for an unknown
 pub ruleset products = (add-mul, mul-add, mul-assoc, mul-comm, mul-left-comm)
+
+-- (u * d - w * d) / d is u - w
+pub quotient : (a d u w : ℕ) → 0 < d → a + w * d ≡ u * d → a ≡ (u - w) * d
+quotient a d u w D h =
+    let k : w ≤ u = le-of-mul-le-mul-right {k = d} (omega arith) D in
+    let g = ap (λ (z : ℕ). z * d) (split u w k) in
+    omega arith
+  where
+    split : (u w : ℕ) → w ≤ u → u ≡ (u - w) + w
+    split u w k = omega arith
 
 -- x ≤ y, of their fractions
 abbrev pub Cross : Float → Float → Type 0
@@ -164,6 +174,13 @@ has-val (fin false m e) false a c h = (tt, let k = h .1 in omega arith)
 has-val (fin true m e) false a c h = absurd (subst T (h .0) tt)
 has-val (fin false m e) true a c h = absurd (subst T (sym (h .0)) tt)
 
+-- and back, above zero
+pub val-has : (x : Float) (p n c : ℕ) → n < p → Val x p n c → HasValue x false (p - n) c
+val-has nan p n c h v = absurd (v .0)
+val-has (inf t) p n c h v = absurd (v .0)
+val-has (fin false m e) p n c h v = (refl, quotient (m * up e * c) (down e) p n (down-pos e) (let k = v .1 in omega arith))
+val-has (fin true m e) p n c h v = absurd (lt-irrefl 0 (let k = v .1 in let g = mul-lt-mul-of-pos-right h (down-pos e) in omega arith))
+
 -- fractions (P - N) / d that equal (p - n) / c, and the order of the two pairs is one
 pub ineq : (P N d P' N' d' p n c p' n' c' : ℕ) → 0 < c → 0 < c' → P * c + n * d ≡ p * d + N * c → P' * c' + n' * d' ≡ p' * d' + N' * c' → p * c' + n' * c ≤ p' * c + n * c' → P * d' + N' * d ≤ P' * d + N * d'
 ineq P N d P' N' d' p n c p' n' c' C C' e e' h =
@@ -176,7 +193,7 @@ pub vals→le : (x y : Float) (p n c p' n' c' : ℕ) → 0 < c → 0 < c' → Va
 vals→le x y p n c p' n' c' C C' v w h = cross→le x y (v .0) (w .0) (ineq (plus x) (less x) (den x) (plus y) (less y) (den y) p n c p' n' c' C C' (v .1) (w .1) h)
 
 -- the same, of the strict order
-ineq-lt : (P N d P' N' d' p n c p' n' c' : ℕ) → 0 < d → 0 < d' → P * c + n * d ≡ p * d + N * c → P' * c' + n' * d' ≡ p' * d' + N' * c' → p * c' + n' * c < p' * c + n * c' → P * d' + N' * d < P' * d + N * d'
+pub ineq-lt : (P N d P' N' d' p n c p' n' c' : ℕ) → 0 < d → 0 < d' → P * c + n * d ≡ p * d + N * c → P' * c' + n' * d' ≡ p' * d' + N' * c' → p * c' + n' * c < p' * c + n * c' → P * d' + N' * d < P' * d + N * d'
 ineq-lt P N d P' N' d' p n c p' n' c' D D' e e' h =
     lt-of-not-le (λ (g : P' * d + N * d' ≤ P * d' + N' * d). not-le-of-lt h (ineq p' n' c' p n c P' N' d' P N d D' D (sym e') (sym e) (omega arith)))
 

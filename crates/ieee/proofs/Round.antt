@@ -1,5 +1,5 @@
 -- `round` and the sign: the sign is only copied, a zero stays one, and what has no minus sign gets none. Assumes nothing.
-use mathlib.Core.Path.{_≡_, refl, _∙_}
+use mathlib.Core.Path.{_≡_, refl, ap, _∙_}
 use Prim.Native.Nat.{ℕ, zero, suc, _+_, _*_, _^_, _<_}
 use native.Mathlib.Nat.{zero-mul}
 use native.Mathlib.Omega.{arith}
@@ -7,6 +7,7 @@ use mathlib.Core.Bool.{Bool, true, false, not, cond}
 use lib.Dec.{T, ltb}
 use lib.IntN.{pos}
 use lib.Ieee.{Float, nan, inf, fin, Format, binary32, binary64, prec, emax, low, odd, units, round, neg, isNan}
+use lib.Ieee.Exact.{HasValue}
 use lib.Ieee.Scale.{round-same}
 
 pub odd-neg : (d : ℕ) (s : Bool) (q k l : ℕ) → odd d (not s) q k l ≡ neg (odd d s q k l)
@@ -25,6 +26,10 @@ units-neg f s q k = go (ltb (q * 2 ^ k) (2 ^ (low f + suc (emax f))))
 pub round-neg : (f : Format) (s : Bool) (a c : ℕ) → round f (not s) a c ≡ neg (round f s a c)
 unfolding round
 round-neg f s a c = units-neg f s _ _
+
+pub neg-value : (x : Float) (a c : ℕ) → HasValue x false a c → HasValue (neg x) true a c
+unfolding neg
+neg-value (fin s m e) a c h = (ap not (h .0), h .1)
 
 at-one : (f : Format) (s : Bool) → round f s 0 1 ≡ fin s 0 (pos 0)
 unfolding round

@@ -2,17 +2,17 @@
 -- Assumes nothing.
 use mathlib.Core.Path.{_≡_, sym, ap, _∙_, subst}
 use Prim.Native.Nat.{ℕ, _+_, _-_, _*_, _≤_, _<_}
-use native.Mathlib.Nat.{lt-irrefl, le-of-eq, le-antisymm, lt-irrefl, add-mul, mul-le-mul-right, le-of-mul-le-mul-right, mul-pos}
+use native.Mathlib.Nat.{lt-irrefl, le-of-eq, le-antisymm, add-mul, mul-le-mul-right, le-of-mul-le-mul-right, mul-pos}
 use native.Mathlib.Omega.{arith}
 use mathlib.Core.Bool.{Bool, true, false, not, cond}
 use lib.IntN.{pos}
-use lib.Dec.{eqb, eqb→eq, not-T, T, not-T, ltb, eqb, eqb→eq, ltb→lt, nltb→le}
-use lib.Ieee.{div, unlike, nan, inf, Float, nan, inf, fin, Format, up, down, unlike, round, add, sub, mul, div, neg, le}
+use lib.Dec.{eqb, eqb→eq, not-T, T, ltb, ltb→lt, nltb→le}
+use lib.Ieee.{div, unlike, nan, inf, Float, fin, Format, up, down, round, add, sub, mul, neg, le}
 use lib.Ieee.Bits.{is-false}
 use lib.Ieee.Order.{round-mono}
 use lib.Ieee.Scale.{finite, round-same}
 use lib.Ieee.Bits.{is-false}
-use lib.Ieee.Positive.{first-pos, den, den-pos, first-pos}
+use lib.Ieee.Positive.{first-pos, den, den-pos}
 use Rattle.ieee.specs.Fraction.{plus, less}
 use Rattle.ieee.proofs.Round.{NonNeg, round-neg, round-zero, round-nonneg}
 use Rattle.ieee.proofs.Order.{products, cross→le, Val, neg-val, neg-le}

@@ -4,7 +4,7 @@ use mathlib.Core.List.{List}
 use lib.ListN.{getD}
 use lib.Ieee.{Float, nan}
 use Rattle.ieee.specs.Alike.{Opposite}
-use Rattle.types.specs.declared.sample.C32.{C32}
+use Rattle.values.specs.declared.sample.C32.{C32}
 use Rattle.mix.specs.declared.oscillator.Pair.{Pair}
 
 -- the phase p, m quarter turns on, modulo 2^32

@@ -1,16 +1,7 @@
 //! The recorded lines against plain definitions.
 
 use super::*;
-
-/// A line taken apart: letter, argument, second argument, result.
-fn fields(line: &str) -> (char, u64, u64, u64) {
-    let word = |start: usize| u64::from_str_radix(&line[start..start + 16], 16).unwrap();
-    (line.chars().next().unwrap(), word(2), word(19), word(36))
-}
-
-fn single(bits: u64) -> f32 {
-    f32::from_bits(u32::try_from(bits).unwrap())
-}
+use crate::lines::{fields, single};
 
 #[test]
 fn lines_are_53_bytes_and_the_same_every_time() {

@@ -3,7 +3,7 @@ use mathlib.Core.Path.{_≡_, refl}
 use Prim.Native.Nat.{ℕ, _^_, _<_}
 use lib.Ieee.{round, add, sub, mul, ofBits}
 use Rattle.ieee.specs.Constants.{zero₀, one₀}
-use Rattle.types.specs.Turn.{Turned}
+use Rattle.values.specs.Turn.{Turned}
 use Rattle.cosine.specs.Bits.{cosBits}
 use Rattle.cosine.specs.Table.{cosList}
 use Rattle.cosine.proofs.Rules.{cos-rules}

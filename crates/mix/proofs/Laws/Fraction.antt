@@ -1,17 +1,15 @@
 -- The low 20 bits of a phase over 2^20: a product with 2^-20 gives it, and nothing is lost. Assumes nothing.
-use mathlib.Core.Path.{_≡_, ap}
-use Prim.Native.Nat.{ℕ, _*_, _%_, _^_, _<_}
+use mathlib.Core.Path.{_≡_}
+use Prim.Native.Nat.{ℕ, _%_, _^_, _<_}
 use native.Mathlib.Omega.{arith}
-use native.Mathlib.Nat.{le-trans, le-of-lt, mod-lt, mul-one, lt-of-lt-of-le, mul-le-mul-right}
+use native.Mathlib.Nat.{le-trans, le-of-lt, mod-lt}
 use mathlib.Core.Bool.{false}
 use lib.Dec.{T, ltb, leb, ltb→lt, leb→le, le→leb}
 use lib.IntN.{pos, negsuc}
 use lib.Ieee.{fin, binary32, round, mul, inFloat}
-use lib.Pow.{pow-pos, pow-mono}
 use lib.Ieee.Back.{round-whole}
 use lib.Ieee.Exact.{HasValue}
-use Rattle.ieee.proofs.Held.{on-grid}
-use Rattle.ieee.proofs.Exact.{whole-scaled, exact-same}
+use Rattle.ieee.proofs.Exact.{parts-exact, whole-scaled}
 use Rattle.mix.specs.Oscillator.{fraction}
 
 pub fraction-is : (a : ℕ) → a < 2 ^ 20 → mul binary32 (round binary32 false a 1) (fin false 1 (negsuc 19)) ≡ fraction a
@@ -19,7 +17,7 @@ fraction-is a h = whole-scaled binary32 (round binary32 false a 1) a 19 (round-w
 
 -- an f32 holds it: nothing is lost
 pub fraction-exact : (a : ℕ) → a < 2 ^ 20 → HasValue (fraction a) false a (2 ^ 20)
-fraction-exact a h = exact-same binary32 (a * 1) (2 ^ 20) a (2 ^ 20) (pow-pos 20) (pow-pos 20) (ap (λ (z : ℕ). z * 2 ^ 20) (mul-one a)) (λ s. on-grid binary32 s a (negsuc 19) (omega arith) (pow-mono {i = 20} {j = 149} (omega arith)) (lt-of-lt-of-le (omega arith) (mul-le-mul-right (2 ^ 20) (pow-pos 128)))) false
+fraction-exact a h = parts-exact binary32 a 20 (omega arith) (omega arith) false
 
 -- what is left over by k is a whole number that an f32 holds
 pub rest-float : (p k : ℕ) → T (ltb 0 k) → T (leb k (2 ^ 24)) → T (inFloat binary32 (pos (p % k)))

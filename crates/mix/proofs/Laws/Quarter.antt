@@ -1,9 +1,8 @@
 -- A quarter turn on the phase makes the pair (c, s) into (-s, c), numbers alike, and m of them repeat it. Shown of any table whose entries half a turn apart are
 -- opposites. Assumes nothing.
-use mathlib.Core.Path.{_≡_, refl, sym, ap, subst}
-use Prim.Native.Nat.{ℕ, zero, suc, _+_, _-_, _*_, _/_, _%_, _^_, _≤_, _<_}
+use mathlib.Core.Path.{_≡_, ap, subst}
+use Prim.Native.Nat.{ℕ, zero, suc, _+_, _-_, _*_, _/_, _%_, _^_, _<_}
 use native.Mathlib.Omega.{arith}
-use mathlib.Core.Bool.{true, false}
 use mathlib.Core.Logic.{inl, inr}
 use mathlib.Core.List.{List}
 use lib.ListN.{getD}
@@ -11,9 +10,8 @@ use lib.Ieee.{Float, nan}
 use Rattle.ieee.specs.Alike.{Opposite}
 use Rattle.ieee.proofs.Test.{order}
 use Rattle.ieee.proofs.Like.{likes, like-sym, like-flip, like-of-eq}
-use Rattle.types.specs.Turn.{turns, Turned}
-use Rattle.types.proofs.Laws.Turn.{alike-refl, turned-add}
-use Rattle.mix.specs.declared.oscillator.Pair.{Pair}
+use Rattle.values.specs.Turn.{turns, Turned}
+use Rattle.values.proofs.Laws.Turn.{alike-refl, turned-add}
 use Rattle.mix.specs.Oscillator.{fraction, between, quarterBefore, pairAt}
 use Rattle.mix.specs.Quarter.{quartersOn, sampleOf, OppositeHalves}
 

@@ -31,11 +31,11 @@ abbrev around : Float → Float → Float
 around x g = add binary64 (add binary64 x g) (neg g)
 
 -- a - b and a - b + 1 are both 2^52 or more in size
-abbrev Out : ℕ → ℕ → Type 0
+abbrev pub Out : ℕ → ℕ → Type 0
 Out a b = (2 ^ 52 + b ≤ a) ⊎ (a + 1 + 2 ^ 52 ≤ b)
 
 -- z is (p - n) / c rounded, which lies from a - b up to a - b + u, for a u of 0 or 1. Where these are 2^52 or more in size, z is the one or the other.
-lands : (z : Float) (p n c a b u : ℕ) → 0 < c → T (fits binary64 z) → Rounds binary64 z p n c → u ≤ 1 → a * c + n ≤ p + b * c → p + b * c ≤ (a + u) * c + n
+pub lands : (z : Float) (p n c a b u : ℕ) → 0 < c → T (fits binary64 z) → Rounds binary64 z p n c → u ≤ 1 → a * c + n ≤ p + b * c → p + b * c ≤ (a + u) * c + n
     → Out a b → a < b + 2 ^ 53 → b ≤ a + 2 ^ 53 → Val z a b 1 ⊎ ((u ≡ 1) × Val z (suc a) b 1)
 lands z p n c a b u C t r U h k out top low =
     let y = whole-held binary64 a b (omega arith) (omega arith) in

@@ -2,7 +2,7 @@
 -- A whole number is its own floor, as every value from 2^52 up is. Assumes nothing.
 use mathlib.Core.Path.{_≡_, refl, ap, _∙_, subst}
 use Prim.Native.Nat.{ℕ, suc, _+_, _-_, _*_, _/_, _^_, _≤_, _<_}
-use native.Mathlib.Nat.{le-of-mul-le-mul-right, le-trans, le-of-eq, zero-lt-suc, mul-one, mul-comm, div-le-self, div-mul-le-self, div-add-mod', mod-lt, mul-div-cancel, div-lt-iff-lt-mul, mul-le-mul-right, lt-of-mul-lt-mul-right, suc-mul}
+use native.Mathlib.Nat.{le-trans, le-of-eq, zero-lt-suc, mul-one, mul-comm, div-le-self, div-mul-le-self, div-add-mod', mod-lt, mul-div-cancel, div-lt-iff-lt-mul, mul-le-mul-right, lt-of-mul-lt-mul-right, suc-mul}
 use native.Mathlib.Omega.{arith}
 use mathlib.Core.Bool.{Bool, true, false, not, cond}
 use lib.IntN.{ℤ, pos, negsuc}
@@ -17,21 +17,11 @@ use lib.Ieee.Scale.{finite}
 use lib.Ieee.Positive.{den, den-pos}
 use Rattle.ieee.specs.Constants.{one₀}
 use Rattle.ieee.specs.Fraction.{plus, less}
-use Rattle.ieee.proofs.Order.{Val, own-val, has-val, vals→le, vals→lt, lt→cross, le→cross, not-lt→le, val-same}
+use Rattle.ieee.proofs.Order.{quotient, Val, own-val, has-val, vals→le, vals→lt, lt→cross, le→cross, not-lt→le, val-same}
 use Rattle.ieee.proofs.Rounds.{add-at}
 use Rattle.ieee.proofs.Held.{fits-parts, on-grid, no-fraction}
 use Rattle.numbers.specs.Whole.{wholeDown, floored, floorPlus, floorLess, far}
 use Rattle.ieee.proofs.Exact.{rounds-whole}
-
--- ---- (u * d - w * d) / d is u - w
-quotient : (a d u w : ℕ) → 0 < d → a + w * d ≡ u * d → a ≡ (u - w) * d
-quotient a d u w D h =
-    let k : w ≤ u = le-of-mul-le-mul-right {k = d} (omega arith) D in
-    let g = ap (λ (z : ℕ). z * d) (split u w k) in
-    omega arith
-  where
-    split : (u w : ℕ) → w ≤ u → u ≡ (u - w) + w
-    split u w k = omega arith
 
 -- ---- the quotient, either way
 up-le : (a c : ℕ) → 0 < c → (a + (c - 1)) / c * c < a + c
@@ -111,7 +101,14 @@ floor-fits (fin s m e) t = round-fits binary64 s (wholeDown s (m * up e) (down e
 pub floor-le : (x : Float) → T (finite x) → T (fits binary64 x) → T (le (floored x) x)
 floor-le x p t = vals→le (floored x) x _ _ 1 _ _ (den x) (zero-lt-suc 0) (den-pos x) (floor-is x p t) (own-val x p) (let h = floor-under x p in omega arith)
 
--- ---- below 2^52 in size
+-- ---- x is below k in size
+pub floor-size : (x : Float) (k : ℕ) → T (finite x) → plus x < less x + k * den x → less x < plus x + k * den x → (floorPlus x < k + floorLess x) × (floorLess x < k + suc (floorPlus x))
+floor-size x k p a b =
+    let lo = floor-under x p in
+    let hi = floor-next x p in
+    (lt-of-mul-lt-mul-right (den x) (omega arith), lt-of-mul-lt-mul-right (den x) (omega arith))
+
+-- ---- below 2^52
 pub near-finite : (x : Float) → T (lt (neg far) x) → T (lt x far) → T (finite x)
 unfolding lt neg
 near-finite nan h k = h
@@ -125,9 +122,7 @@ floor-near x h k =
     let p = near-finite x h k in
     let a = lt→cross (fin true 1 (pos 52)) x tt p h in
     let b = lt→cross x far p tt k in
-    let lo = floor-under x p in
-    let hi = floor-next x p in
-    (lt-of-mul-lt-mul-right (den x) (omega arith), lt-of-mul-lt-mul-right (den x) (omega arith))
+    floor-size x (2 ^ 52) p (omega arith) (omega arith)
 
 -- the whole number after the floor, of which nothing is lost
 pub next-is : (x : Float) → T (fits binary64 x) → T (lt (neg far) x) → T (lt x far) → Val (add binary64 (floored x) one₀) (suc (floorPlus x)) (floorLess x) 1

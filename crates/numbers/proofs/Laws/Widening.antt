@@ -1,21 +1,20 @@
 -- An f32's bits as an f64's: below 2 ^ -126 the digits times 2 ^ -149, from there up the field and the digits moved. Assumes nothing.
-use mathlib.Core.Path.{_≡_, refl, sym, ap, _∙_, subst}
+use mathlib.Core.Path.{_≡_, refl, sym, ap, _∙_}
 use Prim.Native.Nat.{ℕ, suc, _+_, _-_, _*_, _/_, _%_, _^_, _≤_, _<_}
-use native.Mathlib.Nat.{lt-of-lt-of-le, mul-assoc, mul-pos, mul-lt-mul-of-pos-right, mod-lt}
+use native.Mathlib.Nat.{lt-of-lt-of-le, mul-assoc, mul-lt-mul-of-pos-right, mod-lt}
 use native.Mathlib.Omega.{arith}
-use mathlib.Core.Bool.{true, false, not}
+use mathlib.Core.Bool.{false, not}
 use lib.Dec.{T}
 use lib.IntN.{negsuc}
 use lib.Pow.{pow-pos, pow-add, pow-mono}
-use lib.Ieee.{Float, fin, binary32, binary64, up, down, round, mul, fits, isNan, ofBits, toBits}
+use lib.Ieee.{Float, fin, binary32, binary64, round, mul, fits, isNan, ofBits, toBits}
 use lib.Ieee.Back.{round-whole}
 use lib.Ieee.Bits.{ofBits-fits, ofBits-toBits}
 use lib.Ieee.Exact.{HasValue, round-exact}
-use lib.Ieee.Fits.{down-pos, mul-fits, fits-widens}
-use lib.Ieee.Scale.{round-same}
+use lib.Ieee.Fits.{mul-fits, fits-widens}
 use Rattle.ieee.proofs.Exact.{whole-scaled}
 use Rattle.ieee.proofs.Unique.{value-unique}
-use Rattle.ieee.proofs.Bits.{low-value, normal-value, infinite-bits, unsigned}
+use Rattle.ieee.proofs.Bits.{low-value, normal-value, infinite-bits, unsigned, value-number}
 
 -- ---- below 2 ^ -126
 -- 2 ^ -149
@@ -36,10 +35,7 @@ module _ (n : ℕ) (h : n < 2 ^ 23) where
   counted-fits = mul-fits binary64 (round binary64 false n 1) smallest
 
   pub counted-number : T (not (isNan (counted n)))
-  counted-number = go (counted n) counted-value
-    where
-      go : (v : Float) → HasValue v false n (2 ^ 149) → T (not (isNan v))
-      go (fin s m e) k = unfold isNan in tt
+  counted-number = value-number (counted n) false n (2 ^ 149) counted-value
 
   pub widen-low : (ofBits binary64 (toBits binary64 (counted n)) ≡ ofBits binary32 n) × (toBits binary64 (counted n) < 2 ^ 63)
   widen-low = (

@@ -1,0 +1,8 @@
+-- The laws of this crate's definitions.
+pub mod Rounded
+pub mod StepBits
+pub mod Fields
+pub mod Stepped
+pub mod LowBits
+pub mod Wide
+pub mod StepSingle

@@ -1,0 +1,84 @@
+-- `rounded` is floor(±a / c + 1/2), and `phaseStep` of a value below 2^31 in size is that floor modulo 2^32, whichever fraction the value is written as. Assumes nothing.
+use mathlib.Core.Path.{_≡_, refl, sym, ap}
+use Prim.Native.Nat.{ℕ, _+_, _-_, _*_, _%_, _^_, _≤_, _<_}
+use native.Mathlib.Nat.{mul-le-mul-right, mul-lt-mul-of-pos-right, le-of-mul-le-mul-right, lt-of-mul-lt-mul-right, div-mul-le-self, lt-div-mul-add, div-eq-of-lt-le}
+use native.Mathlib.Omega.{arith}
+use mathlib.Core.Bool.{Bool, true, false, cond}
+use lib.IntN.{pos, negsuc}
+use lib.Ieee.{Float, nan, inf, fin, up, down}
+use lib.Ieee.Fits.{down-pos}
+use lib.Ieee.Exact.{HasValue}
+use borrow.Author.Tests.{lt-leb}
+use Rattle.modulate.specs.Step.{wrapped, rounded, phaseStep}
+
+-- ---- ±n is floor(±a / c + 1/2): ±n ≤ ±a / c + 1/2 < ±n + 1, times 2 c
+abbrev pub Floored : Bool → ℕ → ℕ → ℕ → Type 0
+Floored false a c n = (n * (2 * c) ≤ 2 * a + c) × (2 * a + c < n * (2 * c) + 2 * c)
+Floored true a c n = (2 * a ≤ n * (2 * c) + c) × (n * (2 * c) < 2 * a + c)
+
+pub rounded-floor : (s : Bool) (a c : ℕ) → 0 < c → Floored s a c (rounded s a c)
+rounded-floor false a c C =
+    let h = div-mul-le-self (2 * a + c) (2 * c) in
+    let k = lt-div-mul-add {a = 2 * a + c} {b = 2 * c} (omega arith) in
+    (h, k)
+rounded-floor true a c C =
+    let h = div-mul-le-self (2 * a + (c - 1)) (2 * c) in
+    let k = lt-div-mul-add {a = 2 * a + (c - 1)} {b = 2 * c} (omega arith) in
+    (omega arith, omega arith)
+
+-- and it is the only one
+pub rounded-unique : (s : Bool) (a c n : ℕ) → Floored s a c n → rounded s a c ≡ n
+rounded-unique false a c n h = div-eq-of-lt-le {k = n} (2 * c) (h .0) (omega arith)
+rounded-unique true a c n h = div-eq-of-lt-le {k = n} (2 * c) (omega arith) (omega arith)
+
+-- ---- fractions that are equal have one floor
+floored-same : (s : Bool) (a c a' c' n : ℕ) → 0 < c → 0 < c' → a * c' ≡ a' * c → Floored s a c n → Floored s a' c' n
+floored-same false a c a' c' n C C' e h =
+    let p = mul-le-mul-right c' (h .0) in
+    let q = mul-lt-mul-of-pos-right (h .1) C' in
+    (le-of-mul-le-mul-right {k = c} (omega arith) C, lt-of-mul-lt-mul-right c (omega arith))
+floored-same true a c a' c' n C C' e h =
+    let p = mul-le-mul-right c' (h .0) in
+    let q = mul-lt-mul-of-pos-right (h .1) C' in
+    (le-of-mul-le-mul-right {k = c} (omega arith) C, lt-of-mul-lt-mul-right c (omega arith))
+
+pub rounded-same : (s : Bool) (a c a' c' : ℕ) → 0 < c → 0 < c' → a * c' ≡ a' * c → rounded s a c ≡ rounded s a' c'
+rounded-same s a c a' c' C C' e = sym (rounded-unique s a' c' (rounded s a c) (floored-same s a c a' c' (rounded s a c) C C' e (rounded-floor s a c C)))
+
+-- ---- below a half in size it is 0
+pub rounded-small : (s : Bool) (a c : ℕ) → 2 * a < c → rounded s a c ≡ 0
+rounded-small false a c h = rounded-unique false a c 0 (omega arith, omega arith)
+rounded-small true a c h = rounded-unique true a c 0 (omega arith, omega arith)
+
+-- ---- `wrapped` is the one number below 2^32 that is ±k but for a multiple of 2^32
+-- r is a - b modulo 2^32
+pub record Wraps (r a b : ℕ) : Type 0 where
+  pub small : r < 2 ^ 32
+  pub same : (r + b) % 2 ^ 32 ≡ a % 2 ^ 32
+
+pub wrapped-is : (s : Bool) (k : ℕ) → Wraps (wrapped s k) (cond s 0 k) (cond s k 0)
+wrapped-is false k = record { small = omega arith; same = omega arith }
+wrapped-is true k = record { small = omega arith; same = omega arith }
+
+-- a - b being ±k
+pub wrapped-unique : (s : Bool) (k a b r : ℕ) → a + cond s k 0 ≡ cond s 0 k + b → Wraps r a b → r ≡ wrapped s k
+wrapped-unique false k a b r e w = let x = w .small in let y = w .same in omega arith
+wrapped-unique true k a b r e w = let x = w .small in let y = w .same in omega arith
+
+-- ---- the phase step of a value ±a / c
+pub step-of : (x : Float) (s : Bool) (a c : ℕ) → 0 < c → HasValue x s a c → a < 2 ^ 31 * c → phaseStep x ≡ wrapped s (rounded s (a * 2 ^ 32) c)
+unfolding phaseStep
+step-of nan s a c C v h = absurd v
+step-of (inf t) s a c C v h = absurd v
+step-of (fin t m e) s a c C v h =
+    let b = m * up e in
+    let d = down e in
+    let q : b * c ≡ a * d = v .1 in
+    let p = mul-lt-mul-of-pos-right h (down-pos e) in
+    rw (lt-leb (2 ^ 31 * d) b (lt-of-mul-lt-mul-right c (omega arith)), v .0)
+    (ap (wrapped s) (rounded-same s (b * 2 ^ 32) d (a * 2 ^ 32) c (down-pos e) C (omega arith)))
+
+-- the document's cases: v = 2^-33, -2^-33, -3 × 2^-33 and 2^31
+pub cases : (phaseStep (fin false 1 (negsuc 32)) ≡ 1) × (phaseStep (fin true 1 (negsuc 32)) ≡ 0) × (phaseStep (fin true 3 (negsuc 32)) ≡ 4294967295) × (phaseStep (fin false 1 (pos 31)) ≡ 4294967295)
+unfolding phaseStep
+cases = (refl, refl, refl, refl)

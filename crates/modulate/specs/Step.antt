@@ -1,0 +1,53 @@
+-- "Phase adds floor(v × 2^32 + 1/2) mod 2^32, …; from 2^31 up it adds 4,294,967,295, from -2^31 down 0." Definitions only.
+use Prim.Native.Nat.{ℕ, _+_, _-_, _*_, _/_, _%_, _^_}
+use mathlib.Core.Bool.{Bool, true, false, cond}
+use lib.IntN.{pos}
+use lib.Dec.{leb}
+use lib.Ieee.{Float, nan, inf, fin, binary64, up, down, add, mul}
+use Rattle.ieee.specs.Constants.{half₀}
+use Rattle.numbers.specs.Whole.{wholeDown}
+
+-- ±n modulo 2^32
+abbrev pub wrapped : Bool → ℕ → ℕ
+wrapped false n = n % 2 ^ 32
+wrapped true n = (2 ^ 32 - n % 2 ^ 32) % 2 ^ 32
+
+-- ---- in exact arithmetic
+-- floor(±a / c + 1/2), in size: it has the sign of ±a / c, or is 0 (`rounded-floor`)
+abbrev pub rounded : Bool → ℕ → ℕ → ℕ
+rounded false a c = (2 * a + c) / (2 * c)
+rounded true a c = (2 * a + (c - 1)) / (2 * c)
+
+-- the phase step of an f32 v; a NaN gives 0
+unfoldable pub phaseStep : Float → ℕ
+phaseStep nan = 0
+phaseStep (inf s) = cond s 0 4294967295
+phaseStep (fin s m e) = cond (leb (2 ^ 31 * down e) (m * up e)) (cond s 0 4294967295) (wrapped s (rounded s (m * up e * 2 ^ 32) (down e)))
+
+-- ---- as the source computes it, in f64
+-- floor(v) cast to an `i64`, which ends at -2^63 and at 2^63 - 1, and this wrapped into a `u32`
+unfoldable pub stepped : Float → ℕ
+stepped nan = 0
+stepped (inf s) = cond s 0 4294967295
+stepped (fin s m e) = cond (leb (2 ^ 63 * down e) (m * up e)) (cond s 0 4294967295) (wrapped s (wholeDown s (m * up e) (down e)))
+
+-- x × k + 1/2, two roundings
+abbrev pub stepOf : Float → Float → ℕ
+stepOf x k = stepped (add binary64 (mul binary64 x k) half₀)
+
+-- 2^32, the k that a phase step of an f32 is taken with (`step-single`)
+abbrev pub turn₀ : Float
+turn₀ = fin false 1 (pos 32)
+
+-- ---- ends of ranges in the code
+-- 2^63
+abbrev pub end : Float
+end = fin false 1 (pos 63)
+
+-- 2^51
+abbrev pub near : Float
+near = fin false 1 (pos 51)
+
+-- 2^14
+abbrev pub small : Float
+small = fin false 1 (pos 14)

@@ -1,0 +1,79 @@
+-- The samples of a slice: how many there are, the one at an index, a part of the slice, one stored; and the way back. Assumes nothing.
+use mathlib.Core.Path.{_≡_, refl, ap}
+use mathlib.Core.List.{List, [], _∷_, _++_}
+use Prim.Native.Nat.{ℕ, zero, suc, _+_, _*_, _/_, _%_, _<_}
+use native.Mathlib.Omega.{arith}
+use lib.ListN.{length, getD, take, drop, set}
+use lib.Ieee.{Float}
+use Rattle.values.specs.declared.sample.C32.{C32}
+use Rattle.values.specs.Samples.{samples, parts}
+
+pub length-samples : (xs : List Float) → length (samples xs) ≡ length xs / 2
+unfolding samples
+length-samples [] = refl
+length-samples (x ∷ []) = refl
+length-samples (x ∷ y ∷ l) = omega (arith, length-samples l)
+
+pub length-parts : (l : List C32) → length (parts l) ≡ 2 * length l
+unfolding parts
+length-parts [] = refl
+length-parts (z ∷ l) = omega (arith, length-parts l)
+
+-- ---- there and back
+pub samples-parts : (l : List C32) → samples (parts l) ≡ l
+unfolding samples parts
+samples-parts [] = refl
+samples-parts (z ∷ l) = ap (λ (m : List C32). z ∷ m) (samples-parts l)
+
+pub parts-samples : (xs : List Float) → length xs % 2 ≡ 0 → parts (samples xs) ≡ xs
+unfolding samples parts
+parts-samples [] h = refl
+parts-samples (x ∷ []) h = absurd (omega arith)
+parts-samples (x ∷ y ∷ l) h = ap (λ (m : List Float). x ∷ y ∷ m) (parts-samples l (omega arith))
+
+-- ---- at an index
+twice-suc : (i : ℕ) → 2 * suc i ≡ suc (suc (2 * i))
+twice-suc i = omega arith
+
+pub getD-samples : (xs : List Float) (i : ℕ) (z : C32) (d : Float) → i < length xs / 2 → getD (samples xs) i z ≡ record { re = getD xs (2 * i) d; im = getD xs (2 * i + 1) d }
+unfolding samples
+getD-samples [] i z d h = absurd (omega arith)
+getD-samples (x ∷ []) i z d h = absurd (omega arith)
+getD-samples (x ∷ y ∷ l) zero z d h = refl
+getD-samples (x ∷ y ∷ l) (suc i) z d h =
+    let g : suc (suc (2 * i)) + 1 ≡ suc (suc (2 * i + 1)) = omega arith in
+    rw (twice-suc i, g) (getD-samples l i z d (omega arith))
+
+-- storing both parts stores the sample
+pub samples-set : (xs : List Float) (i : ℕ) (z : C32) → i < length xs / 2 → samples (set (set xs (2 * i) (z .re)) (2 * i + 1) (z .im)) ≡ set (samples xs) i z
+unfolding samples
+samples-set [] i z h = absurd (omega arith)
+samples-set (x ∷ []) i z h = absurd (omega arith)
+samples-set (x ∷ y ∷ l) zero z h = refl
+samples-set (x ∷ y ∷ l) (suc i) z h =
+    let g : suc (suc (2 * i)) + 1 ≡ suc (suc (2 * i + 1)) = omega arith in
+    rw (twice-suc i, g) (ap (λ (m : List C32). record { re = x; im = y } ∷ m) (samples-set l i z (omega arith)))
+
+-- ---- a part
+pub samples-take : (n : ℕ) (xs : List Float) → samples (take (2 * n) xs) ≡ take n (samples xs)
+unfolding samples
+samples-take zero xs = refl
+samples-take (suc n) [] = rw (twice-suc n)
+samples-take (suc n) (x ∷ []) = rw (twice-suc n)
+samples-take (suc n) (x ∷ y ∷ l) = rw (twice-suc n) (ap (λ (m : List C32). record { re = x; im = y } ∷ m) (samples-take n l))
+
+pub samples-drop : (n : ℕ) (xs : List Float) → samples (drop (2 * n) xs) ≡ drop n (samples xs)
+unfolding samples
+samples-drop zero xs = refl
+samples-drop (suc n) [] = rw (twice-suc n)
+samples-drop (suc n) (x ∷ []) = rw (twice-suc n) (nothing (2 * n))
+  where
+    nothing : (i : ℕ) → samples (drop (suc i) []) ≡ []
+    nothing i = refl
+samples-drop (suc n) (x ∷ y ∷ l) = rw (twice-suc n) (samples-drop n l)
+
+pub samples-append : (xs ys : List Float) → length xs % 2 ≡ 0 → samples (xs ++ ys) ≡ samples xs ++ samples ys
+unfolding samples
+samples-append [] ys h = refl
+samples-append (x ∷ []) ys h = absurd (omega arith)
+samples-append (x ∷ y ∷ l) ys h = ap (λ (m : List C32). record { re = x; im = y } ∷ m) (samples-append l ys (omega arith))

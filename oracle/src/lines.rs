@@ -1,0 +1,44 @@
+//! The lines of recorded answers. README.md describes them.
+
+use std::collections::HashSet;
+
+use crate::bits::bits32;
+
+/// The lines so far, none of them twice.
+#[derive(Default)]
+pub struct Lines {
+    text: String,
+    seen: HashSet<(char, u64, u64)>,
+}
+
+impl Lines {
+    /// Adds a line, unless the same question was asked before.
+    pub fn add(&mut self, letter: char, x: u64, y: u64, result: u64) {
+        if self.seen.insert((letter, x, y)) {
+            self.text += &format!("{letter} {x:016x} {y:016x} {result:016x}\n");
+        }
+    }
+
+    /// All lines as one text.
+    pub fn into_text(self) -> String {
+        self.text
+    }
+}
+
+/// An f32's bits in the low half of a wide word.
+pub fn wide(x: f32) -> u64 {
+    u64::from(bits32(x))
+}
+
+/// A line taken apart: letter, argument, second argument, result.
+#[cfg(test)]
+pub fn fields(line: &str) -> (char, u64, u64, u64) {
+    let word = |start: usize| u64::from_str_radix(&line[start..start + 16], 16).unwrap();
+    (line.chars().next().unwrap(), word(2), word(19), word(36))
+}
+
+/// The f32 whose bits are a word.
+#[cfg(test)]
+pub fn single(word: u64) -> f32 {
+    f32::from_bits(u32::try_from(word).unwrap())
+}
