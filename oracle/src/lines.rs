@@ -42,3 +42,14 @@ pub fn fields(line: &str) -> (char, u64, u64, u64) {
 pub fn single(word: u64) -> f32 {
     f32::from_bits(u32::try_from(word).unwrap())
 }
+
+/// The lines have 53 bytes, no question comes twice, and they are the same every time.
+#[cfg(test)]
+pub fn check_form(make: fn() -> String) {
+    let text = make();
+    assert!(text.lines().all(|line| line.len() == 52));
+    assert_eq!(text.len(), 53 * text.lines().count());
+    let questions: HashSet<&str> = text.lines().map(|line| &line[..35]).collect();
+    assert_eq!(questions.len(), text.lines().count());
+    assert_eq!(text, make());
+}

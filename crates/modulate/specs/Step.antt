@@ -25,11 +25,15 @@ phaseStep (inf s) = cond s 0 4294967295
 phaseStep (fin s m e) = cond (leb (2 ^ 31 * down e) (m * up e)) (cond s 0 4294967295) (wrapped s (rounded s (m * up e * 2 ^ 32) (down e)))
 
 -- ---- as the source computes it, in f64
--- floor(v) cast to an `i64`, which ends at -2^63 and at 2^63 - 1, and this wrapped into a `u32`
+-- the size from which a cast to an `i64` gives an end of its range, -2^63 or 2^63 - 1
+abbrev pub castEnd : ℕ
+castEnd = 2 ^ 63
+
+-- floor(v) cast to an `i64`, and this wrapped into a `u32`
 unfoldable pub stepped : Float → ℕ
 stepped nan = 0
 stepped (inf s) = cond s 0 4294967295
-stepped (fin s m e) = cond (leb (2 ^ 63 * down e) (m * up e)) (cond s 0 4294967295) (wrapped s (wholeDown s (m * up e) (down e)))
+stepped (fin s m e) = cond (leb (castEnd * down e) (m * up e)) (cond s 0 4294967295) (wrapped s (wholeDown s (m * up e) (down e)))
 
 -- x × k + 1/2, two roundings
 abbrev pub stepOf : Float → Float → ℕ
@@ -40,10 +44,6 @@ abbrev pub turn₀ : Float
 turn₀ = fin false 1 (pos 32)
 
 -- ---- ends of ranges in the code
--- 2^63
-abbrev pub end : Float
-end = fin false 1 (pos 63)
-
 -- 2^51
 abbrev pub near : Float
 near = fin false 1 (pos 51)

@@ -11,7 +11,7 @@ pub enum Verdict {
 
 // Plays the operation. A letter that names no function, and an argument too wide for an f32 or a
 // phase, are malformed.
-pub fn judge(table: &[f32; 4097], op: Operation) -> Verdict {
+pub(crate) fn judge(table: &[f32; 4097], op: Operation) -> Verdict {
     let letter = op.letter;
     match letter {
         b'f' => exact_f64(numbers::floor(replay::f64_of(op.x)), op.answer),

@@ -1,14 +1,11 @@
 //! The recorded lines against plain definitions.
 
 use super::*;
-use crate::lines::{fields, single};
+use crate::lines::{check_form, fields, single};
 
 #[test]
-fn lines_are_53_bytes_and_the_same_every_time() {
-    let text = recorded();
-    assert!(text.lines().all(|line| line.len() == 52));
-    assert_eq!(text.len(), 53 * text.lines().count());
-    assert_eq!(text, recorded());
+fn lines_have_their_form() {
+    check_form(recorded);
 }
 
 #[test]

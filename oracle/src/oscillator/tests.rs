@@ -3,7 +3,7 @@
 use std::collections::HashSet;
 
 use super::*;
-use crate::lines::{fields, single};
+use crate::lines::{check_form, fields, single};
 use crate::reference::open::{correction, cos_f32};
 
 /// The lines of one letter: argument, second argument, result.
@@ -16,18 +16,8 @@ fn lines_of(letter: char) -> Vec<(u64, u64, u64)> {
 }
 
 #[test]
-fn lines_are_53_bytes_and_the_same_every_time() {
-    let text = recorded();
-    assert!(text.lines().all(|line| line.len() == 52));
-    assert_eq!(text.len(), 53 * text.lines().count());
-    assert_eq!(text, recorded());
-}
-
-#[test]
-fn no_question_comes_twice() {
-    let text = recorded();
-    let questions: HashSet<&str> = text.lines().map(|line| &line[..35]).collect();
-    assert_eq!(questions.len(), text.lines().count());
+fn lines_have_their_form() {
+    check_form(recorded);
 }
 
 #[test]

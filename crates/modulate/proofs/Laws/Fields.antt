@@ -148,7 +148,7 @@ module _ (v : Float) (held : T (fits binary32 v)) (lo : T (lt (neg small) v)) (h
   pub field-le : field (toBits binary32 v) ≤ 140
   field-le = count-small _ _ count-bound
 
-  pub places-room : (2 ^ 63 - 1) / 2 ^ places (field (toBits binary32 v)) ≤ 2 ^ 48
+  pub places-room : (2 ^ 63 - 1) / 2 ^ places (field (toBits binary32 v)) ≤ 2 ^ 47
   places-room =
       let b = toBits binary32 v in
       let l = field-le in

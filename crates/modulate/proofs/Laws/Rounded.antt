@@ -14,7 +14,7 @@ use Rattle.modulate.specs.Step.{wrapped, rounded, phaseStep}
 -- ---- ±n is floor(±a / c + 1/2): ±n ≤ ±a / c + 1/2 < ±n + 1, times 2 c
 abbrev pub Floored : Bool → ℕ → ℕ → ℕ → Type 0
 Floored false a c n = (n * (2 * c) ≤ 2 * a + c) × (2 * a + c < n * (2 * c) + 2 * c)
-Floored true a c n = (2 * a ≤ n * (2 * c) + c) × (n * (2 * c) < 2 * a + c)
+Floored true a c n = (n * (2 * c) < 2 * a + c) × (2 * a ≤ n * (2 * c) + c)
 
 pub rounded-floor : (s : Bool) (a c : ℕ) → 0 < c → Floored s a c (rounded s a c)
 rounded-floor false a c C =
@@ -38,9 +38,9 @@ floored-same false a c a' c' n C C' e h =
     let q = mul-lt-mul-of-pos-right (h .1) C' in
     (le-of-mul-le-mul-right {k = c} (omega arith) C, lt-of-mul-lt-mul-right c (omega arith))
 floored-same true a c a' c' n C C' e h =
-    let p = mul-le-mul-right c' (h .0) in
-    let q = mul-lt-mul-of-pos-right (h .1) C' in
-    (le-of-mul-le-mul-right {k = c} (omega arith) C, lt-of-mul-lt-mul-right c (omega arith))
+    let p = mul-lt-mul-of-pos-right (h .0) C' in
+    let q = mul-le-mul-right c' (h .1) in
+    (lt-of-mul-lt-mul-right c (omega arith), le-of-mul-le-mul-right {k = c} (omega arith) C)
 
 pub rounded-same : (s : Bool) (a c a' c' : ℕ) → 0 < c → 0 < c' → a * c' ≡ a' * c → rounded s a c ≡ rounded s a' c'
 rounded-same s a c a' c' C C' e = sym (rounded-unique s a' c' (rounded s a c) (floored-same s a c a' c' (rounded s a c) C C' e (rounded-floor s a c C)))

@@ -40,7 +40,7 @@ wraps-back : (n : ℕ) → n ≤ 2 ^ 47 → (2 ^ 47 - n) % 2 ^ 32 ≡ wrapped tr
 wraps-back n h = omega arith
 
 -- with 2^63 = b d
-module _ (m b d : ℕ) (B : 0 < b) (D : 0 < d) (e : b * d ≡ 2 ^ 63) (low : b ≤ 2 ^ 48) (h : m < 2 ^ 63) where
+module _ (m b d : ℕ) (B : 0 < b) (D : 0 < d) (e : b * d ≡ 2 ^ 63) (low : b ≤ 2 ^ 47) (h : m < 2 ^ 63) where
   taken-off : (2 ^ 63 - 1) / d ≡ b - 1
   taken-off =
       let w : (b - 1 + 1) * d ≡ b * d = ap (λ (z : ℕ). z * d) (omega arith) in
@@ -78,8 +78,8 @@ module _ (m k : ℕ) (least : 16 ≤ k) (most : k ≤ 63) (h : m < 2 ^ 63) where
   split : 2 ^ (63 - k) * 2 ^ k ≡ 2 ^ 63
   split = sym (pow-add 2 (63 - k) k) ∙ ap (λ (z : ℕ). 2 ^ z) {x = 63 - k + k} {y = 63} (omega arith)
 
-  room : 2 ^ (63 - k) ≤ 2 ^ 48
-  room = pow-mono {i = 63 - k} {j = 48} (omega arith)
+  room : 2 ^ (63 - k) ≤ 2 ^ 47
+  room = pow-mono {i = 63 - k} {j = 47} (omega arith)
 
   pub shift-halved : (p : Bool) → quotient p m (2 ^ k) / 2 % 2 ^ 32 ≡ wrapped (not p) (rounded (not p) m (2 * 2 ^ k))
   shift-halved = halved m (2 ^ (63 - k)) (2 ^ k) (pow-pos (63 - k)) (pow-pos k) split room h
@@ -87,5 +87,5 @@ module _ (m k : ℕ) (least : 16 ≤ k) (most : k ≤ 63) (h : m < 2 ^ 63) where
   pub shift-small : (p : Bool) → quotient p m (2 ^ k) < 2 ^ 50
   shift-small = quotient-small m (2 ^ (63 - k)) (2 ^ k) (pow-pos (63 - k)) (pow-pos k) split room h
 
-  pub shift-room : (2 ^ 63 - 1) / 2 ^ k ≤ 2 ^ 48
+  pub shift-room : (2 ^ 63 - 1) / 2 ^ k ≤ 2 ^ 47
   shift-room = rw (taken-off m (2 ^ (63 - k)) (2 ^ k) (pow-pos (63 - k)) (pow-pos k) split room h) (let g = room in omega arith)

@@ -22,9 +22,9 @@ use Rattle.ieee.proofs.Held.{fits-parts, pow-back, on-grid, rounds-above, round
 use Rattle.ieee.proofs.Exact.{Exact, rounds-one-sided, rounds-exact, parts-exact}
 use Rattle.ieee.proofs.Mono.{add-mono, mul-mono-left}
 use Rattle.ieee.proofs.Even.{round-even}
-use Rattle.modulate.specs.Step.{stepOf, stepped, phaseStep, turn₀, end}
+use Rattle.modulate.specs.Step.{stepOf, stepped, phaseStep, turn₀}
 use Rattle.modulate.proofs.Laws.Rounded.{Wraps}
-use Rattle.modulate.proofs.Laws.Stepped.{Floor, Sized, floor-same, stepped-at, stepped-top, stepped-bottom, phase-step-floor, phase-step-end}
+use Rattle.modulate.proofs.Laws.Stepped.{Floor, Sized, end, floor-same, stepped-at, stepped-top, stepped-bottom, phase-step-floor, phase-step-end}
 
 -- ---- v × 2^32, of the size m × 2^e × 2^32, is a whole number m × 2^i or a fraction m / 2^l
 data Scaled (m : ℕ) (e : ℤ) : Type 0 where

@@ -16,7 +16,7 @@ use Rattle.ieee.specs.Fraction.{plus, less}
 use Rattle.ieee.proofs.Order.{Val, own-val, ineq, ineq-lt, le→cross}
 use Rattle.numbers.specs.Whole.{wholeDown, floorPlus, floorLess}
 use Rattle.numbers.proofs.Laws.Whole.{floor-under, floor-next}
-use Rattle.modulate.specs.Step.{wrapped, rounded, stepped, phaseStep, end}
+use Rattle.modulate.specs.Step.{wrapped, rounded, castEnd, stepped, phaseStep}
 use Rattle.modulate.proofs.Laws.Rounded.{rounded-floor, Wraps, wrapped-is, wrapped-unique}
 
 -- a - b is the greatest whole number not above (p - n) / c
@@ -48,14 +48,14 @@ own-floor : (s : Bool) (m : ℕ) (e : ℤ) → Floor (plus (fin s m e)) (less (f
 own-floor false m e = record { under = floor-under (fin false m e) tt; next = floor-next (fin false m e) tt }
 own-floor true m e = record { under = floor-under (fin true m e) tt; next = floor-next (fin true m e) tt }
 
-own-size : (s : Bool) (m : ℕ) (e : ℤ) (p n c : ℕ) → Val (fin s m e) p n c → Sized (2 ^ 63) p n c → m * up e < 2 ^ 63 * down e
+own-size : (s : Bool) (m : ℕ) (e : ℤ) (p n c : ℕ) → Val (fin s m e) p n c → Sized (2 ^ 63) p n c → m * up e < castEnd * down e
 own-size s m e p n c v w =
     let x = fin s m e in
     let h = ineq-lt (plus x) (less x) (down e) (2 ^ 63) 0 1 p n c (2 ^ 63) 0 1 (down-pos e) (zero-lt-suc 0) (v .1) refl (let k = w .high in omega arith) in
     let g = ineq-lt 0 (2 ^ 63) 1 (plus x) (less x) (down e) 0 (2 ^ 63) 1 p n c (zero-lt-suc 0) (down-pos e) refl (v .1) (let k = w .deep in omega arith) in
     go s h g
   where
-    go : (s : Bool) → plus (fin s m e) * 1 + 0 * down e < 2 ^ 63 * down e + less (fin s m e) * 1 → 0 * down e + less (fin s m e) * 1 < plus (fin s m e) * 1 + 2 ^ 63 * down e → m * up e < 2 ^ 63 * down e
+    go : (s : Bool) → plus (fin s m e) * 1 + 0 * down e < 2 ^ 63 * down e + less (fin s m e) * 1 → 0 * down e + less (fin s m e) * 1 < plus (fin s m e) * 1 + 2 ^ 63 * down e → m * up e < castEnd * down e
     go false h g = omega arith
     go true h g = omega arith
 
@@ -68,29 +68,33 @@ stepped-at (fin s m e) p n c a b r C v h f g =
     let x = fin s m e in
     let d = wholeDown s (m * up e) (down e) in
     wrapped-unique s d a b r (floor-one (plus x) (less x) (down e) a b (cond s 0 d) (cond s d 0) (floor-same p n c (plus x) (less x) (down e) a b C (down-pos e) (sym (v .1)) f) (own-floor s m e)) g
-    ∙ sym (ap (λ (t : Bool). cond t (cond s 0 4294967295) (wrapped s d)) (lt-leb (2 ^ 63 * down e) (m * up e) (own-size s m e p n c v h)))
+    ∙ sym (ap (λ (t : Bool). cond t (cond s 0 4294967295) (wrapped s d)) (lt-leb (castEnd * down e) (m * up e) (own-size s m e p n c v h)))
 
 pub stepped-own : (v : Float) (r : ℕ) → T (finite v) → Sized (2 ^ 63) (plus v) (less v) (den v) → Wraps r (floorPlus v) (floorLess v) → r ≡ stepped v
 stepped-own v r p h w = stepped-at v (plus v) (less v) (den v) (floorPlus v) (floorLess v) r (den-pos v) (own-val v p) h (record { under = floor-under v p; next = floor-next v p }) w
 
--- from 2^63 up
+-- 2^63
+abbrev pub end : Float
+end = fin false 1 (pos 63)
+
+-- from there up
 pub stepped-top : (w : Float) → T (le end w) → 4294967295 ≡ stepped w
 unfolding stepped
 stepped-top nan h = absurd (unfold le in h)
 stepped-top (inf true) h = absurd (unfold le in h)
 stepped-top (inf false) h = refl
 stepped-top (fin false m e) h =
-    sym (ap (λ (t : Bool). cond t 4294967295 (wrapped false (wholeDown false (m * up e) (down e)))) (le-leb (2 ^ 63 * down e) (m * up e) (let k = le→cross end (fin false m e) tt tt h in omega arith)))
+    sym (ap (λ (t : Bool). cond t 4294967295 (wrapped false (wholeDown false (m * up e) (down e)))) (le-leb (castEnd * down e) (m * up e) (let k = le→cross end (fin false m e) tt tt h in omega arith)))
 stepped-top (fin true m e) h = let k = le→cross end (fin true m e) tt tt h in let d = down-pos e in absurd (lt-irrefl 0 (omega arith))
 
--- from -2^63 down
+-- and from -2^63 down
 pub stepped-bottom : (w : Float) → T (le w (neg end)) → 0 ≡ stepped w
 unfolding stepped neg
 stepped-bottom nan h = absurd (unfold le in h)
 stepped-bottom (inf true) h = refl
 stepped-bottom (inf false) h = absurd (unfold le in h)
 stepped-bottom (fin true m e) h =
-    sym (ap (λ (t : Bool). cond t 0 (wrapped true (wholeDown true (m * up e) (down e)))) (le-leb (2 ^ 63 * down e) (m * up e) (let k = le→cross (fin true m e) (fin true 1 (pos 63)) tt tt h in omega arith)))
+    sym (ap (λ (t : Bool). cond t 0 (wrapped true (wholeDown true (m * up e) (down e)))) (le-leb (castEnd * down e) (m * up e) (let k = le→cross (fin true m e) (fin true 1 (pos 63)) tt tt h in omega arith)))
 stepped-bottom (fin false m e) h = let k = le→cross (fin false m e) (fin true 1 (pos 63)) tt tt h in let d = down-pos e in absurd (lt-irrefl 0 (omega arith))
 
 -- ---- `phaseStep`

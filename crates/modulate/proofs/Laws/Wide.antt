@@ -16,9 +16,9 @@ use Rattle.ieee.specs.Fraction.{plus, less}
 use Rattle.ieee.proofs.Order.{quotient, Val, neg-val, vals→lt, lt→vals, le→vals, lt→cross, cross→le, not-lt→le, finite-number}
 use Rattle.numbers.specs.Whole.{floored, floorPlus, floorLess}
 use Rattle.numbers.proofs.Laws.Whole.{floor-is, floor-size}
-use Rattle.modulate.specs.Step.{stepped, end}
+use Rattle.modulate.specs.Step.{stepped}
 use Rattle.modulate.proofs.Laws.Rounded.{Wraps}
-use Rattle.modulate.proofs.Laws.Stepped.{Sized, stepped-own, stepped-bottom}
+use Rattle.modulate.proofs.Laws.Stepped.{Sized, end, stepped-own, stepped-bottom}
 
 -- ---- a whole number a - b from 0 up to 2^64: what the cast to a `u64` asks and gives
 record Cast (y : Float) (n : ℕ) : Type 0 where

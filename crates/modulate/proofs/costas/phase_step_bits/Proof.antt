@@ -2,11 +2,12 @@
 use mathlib.Core.Path.{_≡_, sym, ap, _∙_, subst}
 use Prim.Native.Nat.{ℕ, _+_, _-_, _/_, _%_, _^_, _≤_, _<_}
 use native.Mathlib.Omega.{arith}
-use lib.Dec.{T}
+use lib.Dec.{T, ltb}
 use lib.Ieee.{binary32, fits, toBits}
 use borrow.Author.Needs.{needs}
 use Rattle.ieee.proofs.Test.{yes}
-use Rattle.modulate.proofs.Laws.Fields.{bitsQuotient, small-number, field-le, places-room, quotient-lt, step-of-bits}
+use Rattle.modulate.proofs.Laws.StepBits.{moved}
+use Rattle.modulate.proofs.Laws.Fields.{digits, shifted, bitsQuotient, small-number, field-le, places-room, quotient-lt, step-of-bits}
 use Rattle.modulate.proofs.costas.phase_step_bits.Statement.{statement}
 use Rattle.modulate.proofs.costas.phase_step_bits.Tie as tie
 
@@ -19,7 +20,10 @@ abbrev code-quotient : tie.After-at-most-63 → ℕ
 code-quotient c = c .before .moved .result / 2 ^ c .at-most-63 .result + (2 ^ 48 - (2 ^ 63 - 1) / 2 ^ c .at-most-63 .result)
 
 same-quotient : (c : tie.After-at-most-63) → code-quotient c ≡ bitsQuotient (toBits binary32 (c .before .before .args .v))
-same-quotient c = rw (c .before .moved .ensures, c .at-most-63 .ensures)
+same-quotient c =
+    let b = toBits binary32 (c .before .before .args .v) in
+    ap (λ (s : ℕ). s / 2 ^ c .at-most-63 .result + (2 ^ 48 - (2 ^ 63 - 1) / 2 ^ c .at-most-63 .result)) (c .before .moved .ensures)
+    ∙ ap (λ (k : ℕ). moved (ltb b (2 ^ 31)) (shifted (digits b)) / 2 ^ k + (2 ^ 48 - (2 ^ 63 - 1) / 2 ^ k)) (c .at-most-63 .ensures)
 
 code-quotient-lt : (c : tie.After-at-most-63) → code-quotient c < 2 ^ 50
 code-quotient-lt c =
@@ -65,7 +69,7 @@ shr-q1-2 c = search needs
 sub-q1 : tie.Need-sub-q1
 sub-q1 c =
     let a = c .before .before in
-    let l = subst (λ (k : ℕ). (2 ^ 63 - 1) / 2 ^ k ≤ 2 ^ 48) (sym (c .at-most-63 .ensures)) (places-room (a .args .v) (held a) (a .pre .0) (a .pre .1)) in
+    let l = subst (λ (k : ℕ). (2 ^ 63 - 1) / 2 ^ k ≤ 2 ^ 47) (sym (c .at-most-63 .ensures)) (places-room (a .args .v) (held a) (a .pre .0) (a .pre .1)) in
     omega arith
 
 add-q1 : tie.Need-add-q1

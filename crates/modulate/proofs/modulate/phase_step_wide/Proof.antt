@@ -5,8 +5,7 @@ use lib.Ieee.{Float, binary64, ofBits, neg, le, lt, fits}
 use native.Mathlib.Omega.{arith}
 use borrow.Author.Needs.{needs}
 use Rattle.ieee.proofs.Test.{yes, no}
-use Rattle.modulate.specs.Step.{end}
-use Rattle.modulate.proofs.Laws.Stepped.{stepped-top}
+use Rattle.modulate.proofs.Laws.Stepped.{end, stepped-top}
 use Rattle.modulate.proofs.Laws.Wide.{minus-asks, minus-step, plus-asks, plus-step, step-bottom}
 use Rattle.modulate.proofs.modulate.phase_step_wide.Statement.{statement}
 use Rattle.modulate.proofs.modulate.phase_step_wide.Tie as tie
