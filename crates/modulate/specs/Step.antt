@@ -13,10 +13,14 @@ wrapped false n = n % 2 ^ 32
 wrapped true n = (2 ^ 32 - n % 2 ^ 32) % 2 ^ 32
 
 -- ---- in exact arithmetic
--- floor(±a / c + 1/2), in size: it has the sign of ±a / c, or is 0 (`rounded-floor`)
+-- ±a / c + 1/2 is this over 2 c, with the sign of ±a; between -1/2 and 0 it is 0, where the sum lies between 0 and 1/2
+abbrev pub halfMore : Bool → ℕ → ℕ → ℕ
+halfMore false a c = 2 * a + c
+halfMore true a c = 2 * a - c
+
+-- floor(±a / c + 1/2), in size: it has the sign of ±a, or is 0 (`rounded-floor`)
 abbrev pub rounded : Bool → ℕ → ℕ → ℕ
-rounded false a c = (2 * a + c) / (2 * c)
-rounded true a c = (2 * a + (c - 1)) / (2 * c)
+rounded s a c = wholeDown s (halfMore s a c) (2 * c)
 
 -- the phase step of an f32 v; a NaN gives 0
 unfoldable pub phaseStep : Float → ℕ

@@ -24,7 +24,7 @@ const BLOCKS: u64 = 1048576;
 
 // The table is taken once, and lent from here on.
 fn main() {
-    let table = tables::cos_f32();
+    let table = tables::cos_f32_table();
     let mut tally = [0; 15];
     play_blocks(&table, &mut tally);
     counts::show(&tally);

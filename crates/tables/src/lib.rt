@@ -1,4 +1,4 @@
 // The tables of the original's module `tables` that the oscillator reads.
 mod cosines;
 
-pub use cosines::cos_f32;
+pub use cosines::cos_f32_table;

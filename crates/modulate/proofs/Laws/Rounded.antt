@@ -1,7 +1,8 @@
 -- `rounded` is floor(±a / c + 1/2), and `phaseStep` of a value below 2^31 in size is that floor modulo 2^32, whichever fraction the value is written as. Assumes nothing.
 use mathlib.Core.Path.{_≡_, refl, sym, ap}
+use mathlib.Core.Logic.{inl, inr}
 use Prim.Native.Nat.{ℕ, _+_, _-_, _*_, _%_, _^_, _≤_, _<_}
-use native.Mathlib.Nat.{mul-le-mul-right, mul-lt-mul-of-pos-right, le-of-mul-le-mul-right, lt-of-mul-lt-mul-right, div-mul-le-self, lt-div-mul-add, div-eq-of-lt-le}
+use native.Mathlib.Nat.{mul-le-mul-right, mul-lt-mul-of-pos-right, le-of-mul-le-mul-right, lt-of-mul-lt-mul-right, div-mul-le-self, lt-div-mul-add, div-eq-of-lt, div-eq-of-lt-le}
 use native.Mathlib.Omega.{arith}
 use mathlib.Core.Bool.{Bool, true, false, cond}
 use lib.IntN.{pos, negsuc}
@@ -9,22 +10,29 @@ use lib.Ieee.{Float, nan, inf, fin, up, down}
 use lib.Ieee.Fits.{down-pos}
 use lib.Ieee.Exact.{HasValue}
 use borrow.Author.Tests.{lt-leb}
-use Rattle.modulate.specs.Step.{wrapped, rounded, phaseStep}
+use Rattle.ieee.proofs.Test.{order}
+use Rattle.modulate.specs.Step.{wrapped, halfMore, rounded, phaseStep}
 
 -- ---- ±n is floor(±a / c + 1/2): ±n ≤ ±a / c + 1/2 < ±n + 1, times 2 c
 abbrev pub Floored : Bool → ℕ → ℕ → ℕ → Type 0
 Floored false a c n = (n * (2 * c) ≤ 2 * a + c) × (2 * a + c < n * (2 * c) + 2 * c)
-Floored true a c n = (n * (2 * c) < 2 * a + c) × (2 * a ≤ n * (2 * c) + c)
+Floored true a c n = (2 * a ≤ n * (2 * c) + c) × (n * (2 * c) < 2 * a + c)
 
 pub rounded-floor : (s : Bool) (a c : ℕ) → 0 < c → Floored s a c (rounded s a c)
 rounded-floor false a c C =
-    let h = div-mul-le-self (2 * a + c) (2 * c) in
-    let k = lt-div-mul-add {a = 2 * a + c} {b = 2 * c} (omega arith) in
-    (h, k)
-rounded-floor true a c C =
-    let h = div-mul-le-self (2 * a + (c - 1)) (2 * c) in
-    let k = lt-div-mul-add {a = 2 * a + (c - 1)} {b = 2 * c} (omega arith) in
+    let x = halfMore false a c in
+    let h = div-mul-le-self x (2 * c) in
+    let k = lt-div-mul-add {a = x} {b = 2 * c} (omega arith) in
     (omega arith, omega arith)
+rounded-floor true a c C =
+    let x = halfMore true a c in
+    let k = lt-div-mul-add {a = x + (2 * c - 1)} {b = 2 * c} (omega arith) in (
+      omega arith,
+      elim (order (2 * a) c) [
+        | inl l ↦ let z : rounded true a c ≡ 0 = div-eq-of-lt (omega arith) in rw z (omega arith)
+        | inr l ↦ let h = div-mul-le-self (x + (2 * c - 1)) (2 * c) in omega arith
+      ],
+    )
 
 -- and it is the only one
 pub rounded-unique : (s : Bool) (a c n : ℕ) → Floored s a c n → rounded s a c ≡ n
@@ -38,9 +46,9 @@ floored-same false a c a' c' n C C' e h =
     let q = mul-lt-mul-of-pos-right (h .1) C' in
     (le-of-mul-le-mul-right {k = c} (omega arith) C, lt-of-mul-lt-mul-right c (omega arith))
 floored-same true a c a' c' n C C' e h =
-    let p = mul-lt-mul-of-pos-right (h .0) C' in
-    let q = mul-le-mul-right c' (h .1) in
-    (lt-of-mul-lt-mul-right c (omega arith), le-of-mul-le-mul-right {k = c} (omega arith) C)
+    let p = mul-le-mul-right c' (h .0) in
+    let q = mul-lt-mul-of-pos-right (h .1) C' in
+    (le-of-mul-le-mul-right {k = c} (omega arith) C, lt-of-mul-lt-mul-right c (omega arith))
 
 pub rounded-same : (s : Bool) (a c a' c' : ℕ) → 0 < c → 0 < c' → a * c' ≡ a' * c → rounded s a c ≡ rounded s a' c'
 rounded-same s a c a' c' C C' e = sym (rounded-unique s a' c' (rounded s a c) (floored-same s a c a' c' (rounded s a c) C C' e (rounded-floor s a c C)))
