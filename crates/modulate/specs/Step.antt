@@ -1,5 +1,5 @@
 -- "Phase adds floor(v × 2^32 + 1/2) mod 2^32, …; from 2^31 up it adds 4,294,967,295, from -2^31 down 0." Definitions only.
-use Prim.Native.Nat.{ℕ, _+_, _-_, _*_, _/_, _%_, _^_}
+use Prim.Native.Nat.{ℕ, _+_, _-_, _*_, _%_, _^_}
 use mathlib.Core.Bool.{Bool, true, false, cond}
 use lib.IntN.{pos}
 use lib.Dec.{leb}
