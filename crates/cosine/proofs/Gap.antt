@@ -29,13 +29,13 @@ finer m i k h = ap (λ (z : ℕ). m * 2 ^ z) back ∙ ap (λ (z : ℕ). m * z) (
     back : k ≡ k - i + i
     back = omega arith
 
-on-grid : (x : Float) (k : ℕ) → T (finite x) → den x ≤ 2 ^ k → (p : ℕ) × (n : ℕ) × Val x p n (2 ^ k)
-on-grid nan k t h = absurd t
-on-grid (inf s) k t h = absurd t
-on-grid (fin false m (pos i)) k t h = (m * 2 ^ i * 2 ^ k, 0, (tt, omega arith))
-on-grid (fin true m (pos i)) k t h = (0, m * 2 ^ i * 2 ^ k, (tt, omega arith))
-on-grid (fin false m (negsuc i)) k t h = let e = finer m (suc i) k (pow-back (suc i) k h) in (m * 2 ^ (k - suc i), 0, (tt, omega arith))
-on-grid (fin true m (negsuc i)) k t h = let e = finer m (suc i) k (pow-back (suc i) k h) in (0, m * 2 ^ (k - suc i), (tt, omega arith))
+as-parts : (x : Float) (k : ℕ) → T (finite x) → den x ≤ 2 ^ k → (p : ℕ) × (n : ℕ) × Val x p n (2 ^ k)
+as-parts nan k t h = absurd t
+as-parts (inf s) k t h = absurd t
+as-parts (fin false m (pos i)) k t h = (m * 2 ^ i * 2 ^ k, 0, (tt, omega arith))
+as-parts (fin true m (pos i)) k t h = (0, m * 2 ^ i * 2 ^ k, (tt, omega arith))
+as-parts (fin false m (negsuc i)) k t h = let e = finer m (suc i) k (pow-back (suc i) k h) in (m * 2 ^ (k - suc i), 0, (tt, omega arith))
+as-parts (fin true m (negsuc i)) k t h = let e = finer m (suc i) k (pow-back (suc i) k h) in (0, m * 2 ^ (k - suc i), (tt, omega arith))
 
 -- where 2^k < 2^(i + 1), m / 2^(i + 1) has fewer than 2^(prec - 1) of 1 / 2^k, since m has at most prec digits
 tiny : (f : Format) (m i k : ℕ) → m < 2 ^ prec f → 2 ^ k < 2 ^ suc i → m * 2 ^ k < hid f * 2 ^ suc i
@@ -55,7 +55,7 @@ tiny f m i k a h = go (2 ^ k) (2 ^ suc i) (hid f) (twice f) (pow-pos k) (subst (
         omega arith
 
 placed : (f : Format) (x : Float) (k : ℕ) → T (finite x) → T (fits f x) → Placed f x k
-placed f x k t h = elim (order (2 ^ k) (den x)) [ inl a ↦ small (lies x t h a) | inr a ↦ let g = on-grid x k t a in grid (g .0) (g .1) (g .2) ]
+placed f x k t h = elim (order (2 ^ k) (den x)) [ inl a ↦ small (lies x t h a) | inr a ↦ let g = as-parts x k t a in grid (g .0) (g .1) (g .2) ]
   where
     lies : (x : Float) → T (finite x) → T (fits f x) → 2 ^ k < den x → (plus x + less x) * 2 ^ k < hid f * den x
     lies nan t h a = absurd t
@@ -106,7 +106,7 @@ beyond (suc P) N D Q O E K p n w D⁺ E⁺ K⁺ (inl e) a h s l = absurd (lt-irr
 pub gap-above : (f : Format) (x z : Float) (k : ℕ) → T (finite x) → T (finite z) → T (fits f z) → den x ≤ 2 ^ k → hid f * den x < (plus x + less x) * 2 ^ k → T (lt x z)
     → 2 ^ k * (plus x * den z + less z * den x) + den x * den z ≤ 2 ^ k * (plus z * den x + less x * den z)
 gap-above f x z k t u h d b l =
-    let g = on-grid x k t d in
+    let g = as-parts x k t d in
     let c = lt→cross x z t u l in
     elim (placed f z k u h) [
       | grid q r v ↦ grids (plus x) (less x) (den x) (plus z) (less z) (den z) (2 ^ k) (g .0) (g .1) q r (pow-pos k) (g .2 .1) (v .1) c
@@ -117,7 +117,7 @@ gap-above f x z k t u h d b l =
 pub gap-below : (f : Format) (x z : Float) (k : ℕ) → T (finite x) → T (finite z) → T (fits f z) → den x ≤ 2 ^ k → hid f * den x < (plus x + less x) * 2 ^ k → T (lt z x)
     → 2 ^ k * (plus z * den x + less x * den z) + den z * den x ≤ 2 ^ k * (plus x * den z + less z * den x)
 gap-below f x z k t u h d b l =
-    let g = on-grid x k t d in
+    let g = as-parts x k t d in
     let c = lt→cross z x u t l in
     let o : (less x ≡ 0) ⊎ (plus x ≡ 0) = elim (one-part x) [ inl e ↦ inr e | inr e ↦ inl e ] in
     let w : 2 ^ k * (less x * den z + plus z * den x) + den x * den z ≤ 2 ^ k * (less z * den x + plus x * den z) =

@@ -53,8 +53,7 @@ within-nearest N y x h e held number low high a b = record {
   above = λ z f t l k. apart N y (middle (own x) (own z)) (lowered (own x) h e) k low (middle-below (own x) (own z) h e (den-pos x) (b z f t l));
 }
 
--- ---- how near the test looks: within `slack` of the `parts` of a last place. That is half of them less 1/8192; the cosine that comes nearest to half a
--- place, entry 285's, stays away from it by 1/7029
+-- ---- how near the test looks: within `slack` of the `parts` of a last place, which is half of a place less 1/8192 of that half
 abbrev parts : ℕ
 parts = 2 ^ 14
 

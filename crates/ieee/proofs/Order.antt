@@ -2,10 +2,11 @@
 -- Assumes nothing.
 use mathlib.Core.Path.{_≡_, refl, sym, ap, subst}
 use mathlib.Core.Logic.{_⊎_, inl, inr}
-use Prim.Native.Nat.{ℕ, _+_, _-_, _*_, _≤_, _<_}
+use Prim.Native.Nat.{ℕ, _+_, _-_, _*_, _^_, _≤_, _<_}
 use native.Mathlib.Nat.{le-of-eq, le-of-lt, le-antisymm, not-le-of-lt, lt-of-not-le, lt-irrefl, add-mul, mul-add, mul-comm, mul-assoc, mul-left-comm, mul-le-mul-right, mul-lt-mul-of-pos-right, le-of-mul-le-mul-right, mul-pos}
 use native.Mathlib.Omega.{arith}
 use mathlib.Core.Bool.{Bool, true, false, not, _&&_, _||_, cond}
+use lib.IntN.{pos}
 use lib.Dec.{T, T-not, ltb, eqb, eqb→eq, ltb→lt, lt→ltb, nltb→le}
 use lib.Ieee.{Float, nan, inf, fin, up, down, neg, le, lt, eq}
 use lib.Ieee.Fits.{and-l, and-r, and-i, eq→eqb, down-pos}
@@ -20,9 +21,9 @@ use Rattle.ieee.proofs.Compare.{eq-swap}
 -- products multiplied out and put in one order, so that omega can take each for an unknown
 pub ruleset products = (add-mul, mul-add, mul-assoc, mul-comm, mul-left-comm)
 
--- (u * d - w * d) / d is u - w
-pub quotient : (a d u w : ℕ) → 0 < d → a + w * d ≡ u * d → a ≡ (u - w) * d
-quotient a d u w D h =
+-- a multiple of d, less another, is one
+pub multiple-less : (a d u w : ℕ) → 0 < d → a + w * d ≡ u * d → a ≡ (u - w) * d
+multiple-less a d u w D h =
     let k : w ≤ u = le-of-mul-le-mul-right {k = d} (omega arith) D in
     let g = ap (λ (z : ℕ). z * d) (split u w k) in
     omega arith
@@ -178,7 +179,7 @@ has-val (fin false m e) true a c h = absurd (subst T (sym (h .0)) tt)
 pub val-has : (x : Float) (p n c : ℕ) → n < p → Val x p n c → HasValue x false (p - n) c
 val-has nan p n c h v = absurd (v .0)
 val-has (inf t) p n c h v = absurd (v .0)
-val-has (fin false m e) p n c h v = (refl, quotient (m * up e * c) (down e) p n (down-pos e) (let k = v .1 in omega arith))
+val-has (fin false m e) p n c h v = (refl, multiple-less (m * up e * c) (down e) p n (down-pos e) (let k = v .1 in omega arith))
 val-has (fin true m e) p n c h v = absurd (lt-irrefl 0 (let k = v .1 in let g = mul-lt-mul-of-pos-right h (down-pos e) in omega arith))
 
 -- fractions (P - N) / d that equal (p - n) / c, and the order of the two pairs is one
@@ -325,6 +326,18 @@ not-below x y p q h g = let a = le→cross y x q p h in let b = lt→cross x y p
 pub lt→le : (x y : Float) → T (lt x y) → T (le x y)
 unfolding le
 lt→le x y h = or-left (lt x y) (eq x y) h
+
+-- ---- strictly between -y and y a value is finite, and where y is 2 ^ k it is below that in size
+pub inside-finite : (y v : Float) → T (finite y) → T (lt (neg y) v) → T (lt v y) → T (finite v)
+inside-finite y v p h k = between (neg y) v y (neg-finite y p) p (lt→le (neg y) v h) (lt→le v y k)
+
+pub inside-size : (k : ℕ) (v : Float) → T (lt (neg (fin false 1 (pos k))) v) → T (lt v (fin false 1 (pos k))) → (plus v < less v + 2 ^ k * den v) × (less v < plus v + 2 ^ k * den v)
+unfolding neg
+inside-size k v h l =
+    let p = inside-finite (fin false 1 (pos k)) v tt h l in
+    let a = lt→cross (fin true 1 (pos k)) v tt p h in
+    let b = lt→cross v (fin false 1 (pos k)) p tt l in
+    (omega arith, omega arith)
 
 -- ---- equal as numbers
 eq→le : (x y : Float) → T (eq x y) → T (le x y)

@@ -20,7 +20,7 @@ use Rattle.ieee.proofs.Nan.{finite-not-nan}
 use Rattle.ieee.proofs.Round.{neg-value}
 use Rattle.ieee.proofs.Held.{pow-below}
 use Rattle.ieee.proofs.Bits.{low-value, normal-value, sign-bit}
-use Rattle.ieee.proofs.Order.{has-val, lt→vals, lt→le, between}
+use Rattle.ieee.proofs.Order.{has-val, lt→vals, inside-finite}
 use Rattle.modulate.specs.Step.{wrapped, rounded, phaseStep, small}
 use Rattle.modulate.proofs.Laws.Rounded.{rounded-same, rounded-small, step-of}
 use Rattle.modulate.proofs.Laws.StepBits.{quotient, shift-halved, shift-small, shift-room}
@@ -76,8 +76,7 @@ finite-field b h =
 
 -- ---- below 2^14 in size
 small-finite : (v : Float) → T (lt (neg small) v) → T (lt v small) → T (finite v)
-unfolding neg
-small-finite v h k = between (fin true 1 (pos 14)) v small tt tt (lt→le (fin true 1 (pos 14)) v h) (lt→le v small k)
+small-finite v h k = inside-finite small v tt h k
 
 pub small-number : (v : Float) → T (lt (neg small) v) → T (lt v small) → T (not (isNan v))
 small-number v h k = finite-not-nan v (small-finite v h k)

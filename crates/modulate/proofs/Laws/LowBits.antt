@@ -15,7 +15,7 @@ use lib.Ieee.Scale.{finite}
 use lib.Ieee.Positive.{den, den-pos}
 use Rattle.ieee.specs.Fraction.{plus, less}
 use Rattle.ieee.proofs.Nan.{finite-not-nan}
-use Rattle.ieee.proofs.Order.{Val, own-val, val-has, val-same, lt→vals, le→vals, lt→cross, lt→le, not-lt→le, finite-number, between}
+use Rattle.ieee.proofs.Order.{Val, own-val, val-has, val-same, lt→vals, le→vals, not-lt→le, finite-number, inside-finite, inside-size}
 use Rattle.ieee.proofs.Rounds.{add-at, sub-at}
 use Rattle.ieee.proofs.Exact.{rounds-whole}
 use Rattle.ieee.proofs.Bits.{whole-bits}
@@ -45,14 +45,11 @@ taken-off r u B l p h g = take-same (r + l) p u (ap (λ (n : ℕ). n % 2 ^ 32) (
 
 module _ (v : Float) (lo : T (lt (neg near) v)) (hi : T (lt v near)) where
   fine : T (finite v)
-  unfolding neg
-  fine = between (fin true 1 (pos 51)) v near tt tt (lt→le (fin true 1 (pos 51)) v lo) (lt→le v near hi)
+  fine = inside-finite near v tt lo hi
 
   in-size : (k : ℕ) → 2 ^ 51 ≤ k → Sized k (plus v) (less v) (den v)
-  unfolding neg
   in-size k h =
-      let a = lt→cross (fin true 1 (pos 51)) v tt fine lo in
-      let b = lt→cross v near fine tt hi in
+      let s = inside-size 51 v lo hi in
       let c = mul-le-mul-right (den v) h in
       record { high = omega arith; deep = omega arith }
 

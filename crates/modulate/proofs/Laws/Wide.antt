@@ -13,7 +13,7 @@ use lib.Ieee.Scale.{finite}
 use lib.Ieee.Positive.{den}
 use Rattle.ieee.specs.Constants.{zero₀}
 use Rattle.ieee.specs.Fraction.{plus, less}
-use Rattle.ieee.proofs.Order.{quotient, Val, neg-val, vals→lt, lt→vals, le→vals, lt→cross, cross→le, not-lt→le, finite-number}
+use Rattle.ieee.proofs.Order.{multiple-less, Val, neg-val, vals→lt, lt→vals, le→vals, lt→cross, cross→le, not-lt→le, finite-number}
 use Rattle.numbers.specs.Whole.{floored, floorPlus, floorLess}
 use Rattle.numbers.proofs.Laws.Whole.{floor-is, floor-size}
 use Rattle.modulate.specs.Step.{stepped}
@@ -31,7 +31,7 @@ unfolding toUnsigned
 cast-gives nan a b h k v = absurd (v .0)
 cast-gives (inf s) a b h k v = absurd (v .0)
 cast-gives (fin false m e) a b h k v =
-    let g : m * up e ≡ (a - b) * down e = quotient (m * up e) (down e) a b (down-pos e) (let g = v .1 in omega arith) in
+    let g : m * up e ≡ (a - b) * down e = multiple-less (m * up e) (down e) a b (down-pos e) (let g = v .1 in omega arith) in
     let q : m * up e / down e ≡ a - b = ap (λ (z : ℕ). z / down e) g ∙ mul-div-cancel (a - b) (down-pos e) in
     omega arith
 cast-gives (fin true m e) a b h k v =

@@ -15,7 +15,7 @@ use lib.Ieee.Positive.{den, den-pos}
 use Rattle.ieee.specs.Constants.{zero₀, one₀}
 use Rattle.ieee.specs.Fraction.{plus, less}
 use Rattle.ieee.proofs.Compare.{eq-swap}
-use Rattle.ieee.proofs.Order.{Val, own-val, vals→le, le→vals, lt→vals, le→cross, lt→cross, not-lt→le, finite-number, between, neg-val, les→eq, eq→cross, val-same}
+use Rattle.ieee.proofs.Order.{Val, own-val, vals→le, le→vals, lt→vals, le→cross, lt→cross, not-lt→le, finite-number, between, neg-val, les→eq, eq→cross, val-same, inside-finite}
 use Rattle.ieee.proofs.Round.{round-zero}
 use Rattle.ieee.proofs.Rounds.{Rounds, add-at}
 use Rattle.ieee.proofs.Held.{rounds-above, rounds-below, no-fraction}
@@ -24,7 +24,7 @@ use Rattle.ieee.proofs.Test.{order}
 use Rattle.ieee.proofs.Exact.{minus-zero, whole-held, rounds-whole}
 use Rattle.ieee.proofs.Unique.{same-data}
 use Rattle.ieee.proofs.Cancel.{cancels}
-use Rattle.numbers.proofs.Laws.Whole.{floor-is, floor-finite, floor-fits, floor-under, floor-next, near-finite, floor-near, next-is, floor-lt-next, whole-floor}
+use Rattle.numbers.proofs.Laws.Whole.{floor-is, floor-finite, floor-fits, floor-under, floor-next, floor-near, next-is, floor-lt-next, whole-floor}
 
 -- x with g added and taken off again
 abbrev around : Float → Float → Float
@@ -79,7 +79,7 @@ unequal y z p q h k = let a = lt→cross y z p q h in let b = eq→cross y z p q
 
 module _ (x : Float) (t : T (fits binary64 x)) (lo : T (lt (neg far) x)) (hi : T (lt x far)) where
   fine : T (finite x)
-  fine = near-finite x lo hi
+  fine = inside-finite far x tt lo hi
 
   -- a whole number g such that x + g is 2^52 or more in size
   module _ (g : Float) (w v : ℕ) (G : Val g w v 1) (some : 0 < plus (neg g) + less (neg g)) (most : w ≤ v + 2 ^ 52) (least : v ≤ w + 2 ^ 52) (out : Out (floorPlus x + w) (floorLess x + v)) where

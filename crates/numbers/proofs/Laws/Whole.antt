@@ -17,7 +17,7 @@ use lib.Ieee.Scale.{finite}
 use lib.Ieee.Positive.{den, den-pos}
 use Rattle.ieee.specs.Constants.{one₀}
 use Rattle.ieee.specs.Fraction.{plus, less}
-use Rattle.ieee.proofs.Order.{quotient, Val, own-val, has-val, vals→le, vals→lt, lt→cross, le→cross, not-lt→le, val-same}
+use Rattle.ieee.proofs.Order.{multiple-less, Val, own-val, has-val, vals→le, vals→lt, le→cross, not-lt→le, inside-finite, inside-size, val-same}
 use Rattle.ieee.proofs.Rounds.{add-at}
 use Rattle.ieee.proofs.Held.{fits-parts, on-grid, no-fraction}
 use Rattle.numbers.specs.Whole.{wholeDown, floored, floorPlus, floorLess, far}
@@ -109,32 +109,20 @@ floor-size x k p a b =
     (lt-of-mul-lt-mul-right (den x) (omega arith), lt-of-mul-lt-mul-right (den x) (omega arith))
 
 -- ---- below 2^52
-pub near-finite : (x : Float) → T (lt (neg far) x) → T (lt x far) → T (finite x)
-unfolding lt neg
-near-finite nan h k = h
-near-finite (inf true) h k = h
-near-finite (inf false) h k = k
-near-finite (fin s m e) h k = tt
-
 pub floor-near : (x : Float) → T (lt (neg far) x) → T (lt x far) → (floorPlus x < 2 ^ 52 + floorLess x) × (floorLess x < 2 ^ 52 + suc (floorPlus x))
-unfolding neg
-floor-near x h k =
-    let p = near-finite x h k in
-    let a = lt→cross (fin true 1 (pos 52)) x tt p h in
-    let b = lt→cross x far p tt k in
-    floor-size x (2 ^ 52) p (omega arith) (omega arith)
+floor-near x h k = let s = inside-size 52 x h k in floor-size x (2 ^ 52) (inside-finite far x tt h k) (s .0) (s .1)
 
 -- the whole number after the floor, of which nothing is lost
 pub next-is : (x : Float) → T (fits binary64 x) → T (lt (neg far) x) → T (lt x far) → Val (add binary64 (floored x) one₀) (suc (floorPlus x)) (floorLess x) 1
 next-is x t h k =
-    let p = near-finite x h k in
+    let p = inside-finite far x tt h k in
     let b = floor-near x h k in
     let z = add binary64 (floored x) one₀ in
     val-same z _ _ 1 _ _ (omega arith) (rounds-whole binary64 z _ _ (omega arith) (omega arith) (add-at binary64 (floored x) one₀ (floorPlus x) (floorLess x) 1 1 0 1 (zero-lt-suc 0) (zero-lt-suc 0) (floor-is x p t) (tt, refl)))
 
 pub floor-lt-next : (x : Float) → T (fits binary64 x) → T (lt (neg far) x) → T (lt x far) → T (lt x (add binary64 (floored x) one₀))
 floor-lt-next x t h k =
-    let p = near-finite x h k in
+    let p = inside-finite far x tt h k in
     vals→lt x _ _ _ (den x) _ _ 1 (own-val x p) (next-is x t h k) (let g = floor-next x p in omega arith)
 
 -- ---- a whole number is its own floor
@@ -152,8 +140,8 @@ whole-floor (fin s m e) q r t v =
     (subst (λ (z : ℕ). HasValue (floored x) s z 1) (ap (λ (z : ℕ). wholeDown s z (down e)) (size s (v .1)) ∙ whole-of s (cond s (r - q) (q - r)) (down e) (down-pos e)) (floor-val s m e t))
   where
     size : (s : Bool) → plus (fin s m e) * 1 + r * down e ≡ q * down e + less (fin s m e) * 1 → m * up e ≡ cond s (r - q) (q - r) * down e
-    size false h = quotient (m * up e) (down e) q r (down-pos e) (omega arith)
-    size true h = quotient (m * up e) (down e) r q (down-pos e) (omega arith)
+    size false h = multiple-less (m * up e) (down e) q r (down-pos e) (omega arith)
+    size true h = multiple-less (m * up e) (down e) r q (down-pos e) (omega arith)
 
 -- from 2^52 up, either way
 pub far-above : (x : Float) → T (fits binary64 x) → T (not (lt x far)) → x ≡ floored x
