@@ -6,9 +6,9 @@ use lib.ListN.{getD}
 use lib.Ieee.{Float, nan, binary32, round, add, sub, mul}
 use Rattle.mix.specs.declared.oscillator.Pair.{Pair}
 
--- a / 2^20, which an f32 holds for an a below 2^20
+-- the low 20 bits of the phase p over 2^20, which an f32 holds
 abbrev pub fraction : ℕ → Float
-fraction a = round binary32 false a (2 ^ 20)
+fraction p = round binary32 false (p % 2 ^ 20) (2 ^ 20)
 
 -- between the entries idx and idx + 1 of the table, at the fraction f of the way
 abbrev pub between : List Float → ℕ → Float → Float
@@ -25,5 +25,5 @@ quarterBefore idx = (idx + 3072) % 4096
 abbrev pub pairAt : List Float → ℕ → Pair
 pairAt table p =
     let idx = p / 2 ^ 20 in
-    let f = fraction (p % 2 ^ 20) in
+    let f = fraction p in
     record { c = between table idx f; s = between table (quarterBefore idx) f }

@@ -1,6 +1,6 @@
 -- A quarter turn on the phase makes the pair (c, s) into (-s, c), numbers alike, and m of them repeat it. Shown of any table whose entries half a turn apart are
 -- opposites. Assumes nothing.
-use mathlib.Core.Path.{_≡_, ap, subst}
+use mathlib.Core.Path.{_≡_, subst}
 use Prim.Native.Nat.{ℕ, zero, suc, _+_, _-_, _*_, _/_, _%_, _^_, _<_}
 use native.Mathlib.Omega.{arith}
 use mathlib.Core.Logic.{inl, inr}
@@ -14,6 +14,7 @@ use Rattle.values.specs.Turn.{turns, Turned}
 use Rattle.values.proofs.Laws.Turn.{alike-refl, turned-add}
 use Rattle.mix.specs.Oscillator.{fraction, between, quarterBefore, pairAt}
 use Rattle.mix.specs.Quarter.{quartersOn, sampleOf, OppositeHalves}
+use Rattle.mix.proofs.Laws.Fraction.{fraction-same}
 
 module _ (table : List Float) (opposite : OppositeHalves table) where
   -- interpolated half a turn on
@@ -35,10 +36,10 @@ module _ (table : List Float) (opposite : OppositeHalves table) where
   quarter-turn p h =
       let p' = quartersOn 1 p in
       let idx = p / 2 ^ 20 in
-      let f : fraction (p' % 2 ^ 20) ≡ fraction (p % 2 ^ 20) = ap fraction (omega arith) in
+      let f : fraction p' ≡ fraction p = fraction-same p' p (omega arith) in
       let at : quarterBefore (p' / 2 ^ 20) ≡ idx = omega arith in
       record {
-        real = like-flip (rw f (between-opposite (p' / 2 ^ 20) (quarterBefore idx) (fraction (p % 2 ^ 20)) (omega arith) (omega arith)));
+        real = like-flip (rw f (between-opposite (p' / 2 ^ 20) (quarterBefore idx) (fraction p) (omega arith) (omega arith)));
         imag = like-of-eq (rw (f, at));
       }
 

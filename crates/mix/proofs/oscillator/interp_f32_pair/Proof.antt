@@ -1,7 +1,6 @@
 -- `mix::oscillator::interp_f32_pair` meets its contract: the indices lie inside the table, and the fraction is the definition's. Assumes nothing.
 use mathlib.Core.Path.{ap}
-use Prim.Native.Nat.{_/_, _%_, _^_}
-use native.Mathlib.Omega.{arith}
+use Prim.Native.Nat.{_/_, _^_}
 use lib.Ieee.{Float, ofBits, ofInt}
 use borrow.Author.Needs.{needs}
 use Rattle.mix.specs.Oscillator.{between, quarterBefore}
@@ -53,7 +52,7 @@ unfolding ofBits ofInt
 returns c =
     let args = c .before .before .before .before .before .args in
     let idx = args .p / 2 ^ 20 in
-    ap (λ (f : Float). record { c = between (args .table .now) idx f; s = between (args .table .now) (quarterBefore idx) f }) (fraction-is (args .p % 2 ^ 20) (omega arith))
+    ap (λ (f : Float). record { c = between (args .table .now) idx f; s = between (args .table .now) (quarterBefore idx) f }) (fraction-is (args .p))
 
 pub interp-f32-pair-spec : {M : Type 1} → statement M
 interp-f32-pair-spec =
