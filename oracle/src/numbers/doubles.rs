@@ -129,7 +129,6 @@ pub fn for_limit(random: &mut Random) -> Vec<(f64, f64)> {
 
 fn around_limit(random: &mut Random, limit: f64) -> Vec<(f64, f64)> {
     let mut list = special();
-    list.retain(|x| !x.is_nan());
     for x in [limit, limit / 2.0, limit * 2.0, 1.0, 1e9] {
         list.extend(nearer(x));
     }
