@@ -138,6 +138,24 @@ not-lt→le (fin s m e) (fin t n d) p q h =
     le-of-not-lt : {a b : ℕ} → ¬ (b < a) → a ≤ b
     le-of-not-lt n = omega arith
 
+pub not-le→lt : (x y : Float) → T (number x) → T (number y) → T (not (le x y)) → T (lt y x)
+not-le→lt x y p q h = go (lt y x) (λ t. t) (not-lt→le y x q p)
+  where
+    go : (b : Bool) → (T b → T (lt y x)) → (T (not b) → T (le x y)) → T (lt y x)
+    go true f g = f tt
+    go false f g = absurd (T-not (le x y) h (g tt))
+
+-- what lies above something is a number
+pub above-number : (x y : Float) → T (lt x y) → T (number y)
+above-number x (inf t) h = tt
+above-number x (fin t n d) h = tt
+above-number x nan h = absurd (never x h)
+  where
+    never : (x : Float) → T (lt x nan) → ⊥
+    never nan h = unfold lt in h
+    never (inf s) h = unfold lt in h
+    never (fin s m e) h = unfold lt in h
+
 pub finite-number : (x : Float) → T (finite x) → T (number x)
 finite-number nan p = p
 finite-number (inf s) p = tt

@@ -2,18 +2,18 @@
 -- Assumes nothing.
 use mathlib.Core.Path.{_≡_, refl, ap, _∙_}
 use Prim.Native.Nat.{ℕ, suc, _+_, _-_, _*_, _/_, _%_, _^_, _≤_, _<_}
-use native.Mathlib.Nat.{lt-of-not-le, zero-lt-suc, lt-of-mul-lt-mul-right, mul-div-cancel}
+use native.Mathlib.Nat.{zero-lt-suc, lt-of-mul-lt-mul-right, mul-div-cancel}
 use native.Mathlib.Omega.{arith}
 use mathlib.Core.Bool.{true, false, not}
 use lib.IntN.{pos}
-use lib.Dec.{T, T-not}
+use lib.Dec.{T}
 use lib.Ieee.{Float, nan, inf, fin, binary64, up, down, neg, le, lt, fits, toUnsigned}
 use lib.Ieee.Fits.{down-pos}
 use lib.Ieee.Scale.{finite}
 use lib.Ieee.Positive.{den}
 use Rattle.ieee.specs.Constants.{zero₀}
 use Rattle.ieee.specs.Fraction.{plus, less}
-use Rattle.ieee.proofs.Order.{multiple-less, Val, neg-val, vals→lt, lt→vals, le→vals, lt→cross, cross→le, not-lt→le, finite-number}
+use Rattle.ieee.proofs.Order.{multiple-less, Val, neg-val, vals→lt, lt→vals, le→vals, not-lt→le, not-le→lt, above-number, finite-number, inside-finite, inside-size}
 use Rattle.numbers.specs.Whole.{floored, floorPlus, floorLess}
 use Rattle.numbers.proofs.Laws.Whole.{floor-is, floor-size}
 use Rattle.modulate.specs.Step.{stepped}
@@ -47,32 +47,24 @@ cast-whole y a b h k v = record {
 }
 
 -- ---- between the ends
-record Inside (v : Float) : Type 0 where
-  pub fine : T (finite v)
-  pub size : Sized (2 ^ 63) (plus v) (less v) (den v)
-
-inside : (v : Float) → T (not (le end v)) → T (lt (neg end) v) → Inside v
-unfolding neg
-inside nan h k = absurd (unfold lt in k)
-inside (inf true) h k = absurd (unfold lt in k)
-inside (inf false) h k = absurd (unfold le in h)
-inside (fin s m e) h k =
-    let v = fin s m e in
-    let x = lt→cross (fin true 1 (pos 63)) v tt tt k in
-    record { fine = tt; size = record { high = lt-of-not-le (λ g. T-not (le end v) h (cross→le end v tt tt (omega arith))); deep = omega arith } }
-
 module _ (v n : Float) (is : n ≡ floored v) (t : T (fits binary64 v)) (top : T (not (le end v))) (bottom : T (lt (neg end) v)) where
+  below-end : T (lt v end)
+  below-end = not-le→lt end v tt (above-number (neg end) v bottom) top
+
   fine : T (finite v)
-  fine = inside v top bottom .fine
+  fine = inside-finite end v tt bottom below-end
+
+  size : Sized (2 ^ 63) (plus v) (less v) (den v)
+  size = let s = inside-size 63 v bottom below-end in record { high = s .0; deep = s .1 }
 
   floor-value : Val n (floorPlus v) (floorLess v) 1
   floor-value = rw is (floor-is v fine t)
 
   floor-in : (floorPlus v < 2 ^ 63 + floorLess v) × (floorLess v < 2 ^ 63 + suc (floorPlus v))
-  floor-in = let w = inside v top bottom .size in floor-size v (2 ^ 63) fine (w .high) (w .deep)
+  floor-in = floor-size v (2 ^ 63) fine (size .high) (size .deep)
 
   wraps : (r : ℕ) → Wraps r (floorPlus v) (floorLess v) → r ≡ stepped v
-  wraps r w = stepped-own v r fine (inside v top bottom .size) w
+  wraps r w = stepped-own v r fine size w
 
   -- a floor below zero is negated
   module _ (minus : T (lt n zero₀)) where
