@@ -20,6 +20,7 @@ mod oscillator;
 mod play;
 mod random;
 mod refusal;
+mod runs;
 mod signal;
 
 /// The original's first implementation, the one that is ported.
@@ -32,13 +33,17 @@ usage: oracle play [--reference] SCRIPT   plays a script ('-' reads standard inp
        oracle compare [--seed S] [--symbols N]
        oracle numbers                     writes the recorded answers of the number operations
        oracle oscillator                  writes those of the oscillator and the phase steps
+       oracle runs                        writes those of the timing loop
        oracle record FOLDER               writes all recorded answers, FOLDER/NAME/stdin each";
 
 /// Makes the text of one file of recorded answers.
 type Make = fn() -> String;
 
 /// Recorded answers: the folder that each file goes to, and what makes it.
-const RECORDED: [(&str, Make); 1] = [("operations_replay", operations)];
+const RECORDED: [(&str, Make); 2] = [
+    ("operations_replay", operations),
+    ("timing_replay", runs::recorded),
+];
 
 /// The recorded answers of all operations that are one line each.
 fn operations() -> String {
@@ -54,6 +59,7 @@ fn main() -> ExitCode {
         ["compare", ref options @ ..] => compare_as_asked(options),
         ["numbers"] => write_out(&numbers::recorded()),
         ["oscillator"] => write_out(&oscillator::recorded()),
+        ["runs"] => write_out(&runs::recorded()),
         ["record", folder] => record(Path::new(folder)),
         _ => Err(USAGE.to_string()),
     };

@@ -12,7 +12,7 @@ use lib.Ieee.Bits.{is-true}
 use lib.Ieee.Positive.{above, first-pos}
 use lib.Ieee.Scale.{finite}
 use Rattle.ieee.specs.Alike.{plain, signed, Like, Alike, sameNumber}
-use Rattle.ieee.proofs.Test.{same-test}
+use Rattle.ieee.proofs.Test.{same-test, cond-related}
 use Rattle.ieee.proofs.Like.{plain-neg, like-refl}
 
 ltb-scale : (n u v : ℕ) → 0 < u → 0 < v → ltb 0 (n * u * v) ≡ ltb 0 n
@@ -225,8 +225,7 @@ like-finite {s} {x} {y} p = cc (finite-plain x, p .same, finite-plain (signed s 
 
 -- ---- a choice between floats by the same test
 pub like-cond : {s p q : Bool} {x x' y y' : Float} → p ≡ q → Like s x x' → Like s y y' → Like s (cond p x y) (cond q x' y')
-like-cond {p = true} e h k = rw (← e) h
-like-cond {p = false} e h k = rw (← e) k
+like-cond {s} e h k = cond-related (Like s) e h k
 
 -- ---- `Alike` says what document 01 says
 own : (y : Float) → T (sameNumber y y)

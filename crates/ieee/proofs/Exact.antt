@@ -124,16 +124,28 @@ whole-scaled f (fin false m e) n k h =
     mul-fin f false false m 1 e (negsuc k)
     ∙ round-same f false (m * up e * (1 * 1)) (down e * w) n w (mul-pos (down-pos e) (pow-pos (suc k))) (pow-pos (suc k)) (ap (λ (z : ℕ). z * w) (h .1) ∙ mul-assoc n (down e) w)
 
-none-off : (f : Format) (s : Bool) (a c : ℕ) → sum f s (a * 1) true 0 (c * 1) ≡ round f s a c
+none-off : (f : Format) (s : Bool) (a c : ℕ) → sum f s a true 0 c ≡ round f s a c
 unfolding sum
-none-off f true a c = rw (mul-one a, mul-one c, add-zero a)
-none-off f false a c = rw (mul-one a, mul-one c, sub-zero a, is-false (ltb a 0) (not-T (ltb a 0) (λ t. omega (arith, ltb→lt a 0 t))))
+none-off f true a c = rw (add-zero a)
+none-off f false a c = rw (sub-zero a, is-false (ltb a 0) (not-T (ltb a 0) (λ t. omega (arith, ltb→lt a 0 t))))
 
 -- x - 0 is x, a zero with its sign included
 pub minus-zero : (f : Format) (x : Float) → T (fits f x) → sub f x zero₀ ≡ x
 minus-zero f nan t = unfold sub in refl
 minus-zero f (inf s) t = unfold sub in refl
-minus-zero f (fin s m e) t = unfold sub in rw (add-fin f s true m 0 e (pos 0), zero-mul (down e)) (none-off f s (m * up e) (down e) ∙ round-own f s m e t)
+minus-zero f (fin s m e) t = unfold sub in rw (add-fin f s true m 0 e (pos 0), zero-mul (down e), mul-one (m * up e), mul-one (down e)) (none-off f s (m * up e) (down e) ∙ round-own f s m e t)
+
+-- 0 - x, for a whole number x = -n, is n, with no minus sign at 0
+pub zero-minus : (f : Format) (x : Float) (n : ℕ) → Val x 0 n 1 → sub f zero₀ x ≡ round f false n 1
+unfolding sub
+zero-minus f nan n v = absurd (v .0)
+zero-minus f (inf s) n v = absurd (v .0)
+zero-minus f (fin true m e) n v =
+    rw (add-fin f false false 0 m (pos 0) e) (unfold sum in round-same f false _ _ n 1 (mul-pos (zero-lt-suc 0) (down-pos e)) (zero-lt-suc 0) (let k = v .1 in omega arith))
+zero-minus f (fin false m e) n v =
+    let d = down-pos e in
+    let z : m * up e * 1 ≡ 0 = let k = v .1 in omega arith in
+    rw (add-fin f false true 0 m (pos 0) e, z) (none-off f false _ _ ∙ round-same f false (0 * 1 * down e) (1 * down e) n 1 (mul-pos (zero-lt-suc 0) d) (zero-lt-suc 0) (let k = v .1 in omega arith))
 
 -- ---- the half and the double of m * 2 ^ e
 lower : ℤ → ℤ

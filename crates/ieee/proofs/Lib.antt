@@ -9,6 +9,7 @@ pub mod Magnitude
 pub mod Unique
 pub mod Bits
 pub mod Rounds
+pub mod Number
 pub mod Cancel
 pub mod Held
 pub mod Exact

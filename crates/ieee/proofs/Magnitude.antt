@@ -1,6 +1,6 @@
--- A magnitude is below t exactly if the value lies between -t and t. Assumes nothing.
+-- A magnitude is below t exactly if the value lies between -t and t; and it forgets a sign. Assumes nothing.
 use mathlib.Core.Path.{_≡_, refl, sym, ap, _∙_}
-use Prim.Native.Nat.{ℕ, _+_, _*_, _<_}
+use Prim.Native.Nat.{ℕ, zero, suc, _+_, _*_, _<_}
 use native.Mathlib.Nat.{mul-lt-mul-of-pos-right}
 use native.Mathlib.Omega.{arith}
 use mathlib.Core.Bool.{Bool, true, false, _&&_, and-true, and-false}
@@ -9,6 +9,7 @@ use lib.Dec.{T}
 use lib.Ieee.{Float, nan, inf, fin, neg, lt}
 use lib.Ieee.Bits.{is-true}
 use lib.Ieee.Positive.{den, den-pos}
+use Rattle.ieee.specs.Alike.{plain, signed, Like}
 use Rattle.ieee.specs.Constants.{zero₀}
 use Rattle.ieee.specs.Fraction.{plus, less}
 use Rattle.ieee.specs.Magnitude.{magnitude}
@@ -48,3 +49,22 @@ magnitude-lt (fin false m e) t h = sym (ap (λ (b : Bool). b && lt (fin false m 
     opposite : lt (neg t) (fin false m e) ≡ lt (fin true m e) t
     opposite = lt-negs t (fin true m e)
 magnitude-lt (fin true m e) t h = sym (lt-negs t (fin false m e)) ∙ sym (and-true (lt (neg t) (fin true m e))) ∙ sym (ap (λ (b : Bool). lt (neg t) (fin true m e) && b) (minus-lt m e t h))
+
+-- ---- of floats alike up to a sign
+magnitude-neg : (x : Float) → magnitude (neg x) ≡ magnitude x
+unfolding magnitude neg
+magnitude-neg nan = refl
+magnitude-neg (inf s) = refl
+magnitude-neg (fin s m e) = refl
+
+magnitude-plain : (x : Float) → plain (magnitude (plain x)) ≡ plain (magnitude x)
+unfolding magnitude plain
+magnitude-plain nan = refl
+magnitude-plain (inf s) = refl
+magnitude-plain (fin s zero e) = refl
+magnitude-plain (fin s (suc m) e) = refl
+
+pub like-magnitude : {s : Bool} {x y : Float} → Like s x y → Like false (magnitude x) (magnitude y)
+unfolding signed
+like-magnitude {s = true} {x} {y} p = record { same = cc (magnitude-plain x, magnitude-plain (neg y), p .same, magnitude-neg y) }
+like-magnitude {s = false} {x} {y} p = record { same = cc (magnitude-plain x, magnitude-plain y, p .same) }

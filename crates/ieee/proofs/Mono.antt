@@ -1,11 +1,11 @@
 -- Monotone rounding for all signs: a sum grows with each term, a product with a factor if the other is not negative.
 -- Assumes nothing.
-use mathlib.Core.Path.{_≡_}
+use mathlib.Core.Path.{_≡_, refl}
 use Prim.Native.Nat.{ℕ, _+_, _*_, _≤_}
-use native.Mathlib.Nat.{zero-mul, mul-zero, add-zero, mul-comm, mul-assoc, mul-left-comm, mul-le-mul, mul-le-mul-right, mul-pos}
+use native.Mathlib.Nat.{zero-lt-suc, zero-mul, mul-zero, add-zero, mul-comm, mul-assoc, mul-left-comm, mul-le-mul, mul-le-mul-right, mul-pos}
 use native.Mathlib.Omega.{arith}
 use lib.Dec.{T}
-use lib.Ieee.{Float, Format, add, sub, mul, div, neg, le, lt}
+use lib.Ieee.{Float, Format, add, sub, mul, div, neg, le, lt, fits}
 use lib.Ieee.Scale.{finite}
 use lib.Ieee.Positive.{den, den-pos}
 use Rattle.ieee.specs.Constants.{zero₀}
@@ -13,6 +13,7 @@ use Rattle.ieee.specs.Fraction.{plus, less}
 use Rattle.ieee.proofs.Algebra.{mul-swap, sub-is}
 use Rattle.ieee.proofs.Order.{products, less-none, plus-some, le→cross, le-trans-float, neg-le, neg-finite}
 use Rattle.ieee.proofs.Rounds.{rounds-mono, add-rounds, mul-rounds, div-rounds}
+use Rattle.ieee.proofs.Held.{rounds-above}
 
 -- ---- the operations keep the order; a result may overflow to an infinity
 sum-grows : (P N d P' N' d' Q O b Q' O' b' : ℕ) → P * d' + N' * d ≤ P' * d + N * d' → Q * b' + O' * b ≤ Q' * b + O * b'
@@ -48,6 +49,13 @@ pub mul-mono : (f : Format) (x x' y y' : Float) → T (finite x) → T (finite x
 mul-mono f x x' y y' p p' q q' z u h k =
     le-trans-float (mul f x y) (mul f x' y) (mul f x' y') (mul-mono-left f x x' y p p' q u h)
     (rw (mul-swap f x' y, mul-swap f x' y') (mul-mono-left f y y' x' q q' p' z k))
+
+-- a product of values from 0 up is one
+pub mul-nonneg : (f : Format) (x y : Float) → T (finite x) → T (finite y) → T (le zero₀ x) → T (le zero₀ y) → T (le zero₀ (mul f x y))
+mul-nonneg f x y p q h k =
+    let n = less-none x p h in
+    let o = less-none y q k in
+    rounds-above f zero₀ (mul f x y) 0 0 1 _ _ _ (unfold fits in tt) (tt, refl) (zero-lt-suc 0) (mul-pos (den-pos x) (den-pos y)) (mul-rounds f x y p q) (simp (n, o, mul-zero, zero-mul, add-zero) (omega arith))
 
 quotient-grows : (P N d P' N' d' Q O b Q' O' b' : ℕ) → N ≡ 0 → N' ≡ 0 → O ≡ 0 → O' ≡ 0 → P * d' + N' * d ≤ P' * d + N * d' → Q' * b + O * b' ≤ Q * b' + O' * b
     → P * b * (Q' * d') + N' * b' * (Q * d) ≤ P' * b' * (Q * d) + N * b * (Q' * d')

@@ -1,6 +1,6 @@
 // Playing one operation, and comparing what comes out with the recorded answer.
-use crate::line::Operation;
 use mix::Pair;
+use replay::Operation;
 
 // Whether the computed answer agrees with the recorded one. If not, the computed one's word.
 pub enum Verdict {

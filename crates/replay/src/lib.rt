@@ -3,6 +3,7 @@
 mod bits;
 mod compare;
 mod hex;
+mod line;
 mod report;
 
 pub use bits::f32_bits;
@@ -15,6 +16,9 @@ pub use compare::same_f32;
 pub use compare::same_f64;
 pub use hex::Word;
 pub use hex::read_word;
+pub use line::Operation;
+pub use line::Reading;
+pub use line::read_line;
 pub use report::count;
 pub use report::differs;
 pub use report::malformed;

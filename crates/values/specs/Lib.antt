@@ -1,4 +1,5 @@
 pub mod Refusal
+pub mod Answer
 pub mod Samples
 pub mod Each
 pub mod Turn

@@ -1,8 +1,9 @@
 // A complex sample, the counts of a call and the refusals, from types.rs and timing.rs.
 mod error;
+mod progress;
 mod sample;
-mod timing;
 
 pub use error::Refusal;
+pub use progress::Answer;
+pub use progress::Progress;
 pub use sample::C32;
-pub use timing::Progress;

@@ -40,7 +40,7 @@ part-in x p t =
     )
 
 -- ---- from 0 up, a zero with a minus sign included
-floor-plain : (x : Float) → T (finite x) → less x ≡ 0 → (floorPlus x ≡ plus x / den x) × (floorLess x ≡ 0)
+pub floor-plain : (x : Float) → T (finite x) → less x ≡ 0 → (floorPlus x ≡ plus x / den x) × (floorLess x ≡ 0)
 floor-plain (fin false m e) p h = (refl, refl)
 floor-plain (fin true m e) p h =
     let c = down e in

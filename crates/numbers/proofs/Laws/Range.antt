@@ -1,4 +1,4 @@
--- A limited value lies within its limits, is what the source's `max` and `min` give, in either order, and is x itself where x lies within; and x - x tells whether x is finite.
+-- A limited value lies within its limits, is what the source's `max` and `min` give, in either order, is x itself where x lies within, and depends only on the numbers; and x - x tells whether x is finite.
 -- Each law once, for both formats. Assumes nothing.
 use mathlib.Core.Path.{_≡_, refl, sym, ap, subst}
 use Prim.Native.Nat.{ℕ, _+_, _*_, _<_}
@@ -10,9 +10,12 @@ use lib.Ieee.{Float, nan, inf, fin, Format, sub, neg, le, lt, eq}
 use lib.Ieee.Bits.{is-true, is-false}
 use lib.Ieee.Scale.{finite}
 use lib.Ieee.Positive.{den, den-pos}
+use Rattle.ieee.specs.Alike.{Alike}
 use Rattle.ieee.specs.Constants.{zero₀}
 use Rattle.ieee.specs.Fraction.{plus, less}
 use Rattle.ieee.proofs.Test.{yes}
+use Rattle.ieee.proofs.Like.{like-neg}
+use Rattle.ieee.proofs.Compare.{like-lt, like-cond}
 use Rattle.ieee.proofs.Order.{lt→le, le-trans-float, minus-le, not-below, Val, own-val, vals→le, number, finite-number, not-lt→le, le-refl-float, neg-number, neg-finite, between, les→eq}
 use Rattle.ieee.proofs.Rounds.{rounds-same, sub-at}
 use Rattle.ieee.proofs.Exact.{Exact, rounds-exact, zero-exact}
@@ -85,6 +88,11 @@ limit-min-max x l q z = go (lt l x) (high-not-low x l q z)
     go : (b : Bool) → (b ≡ true → lt x (neg l) ≡ false) → cond (lt x (neg l)) (neg l) (cond b l x) ≡ greater (cond b l x) (neg l)
     go true h = rw (h refl, above-not l (neg l) q (neg-finite l q) (minus-le l q z))
     go false h = refl
+
+-- ---- of floats alike
+pub alike-limit : {x y l m : Float} → Alike x y → Alike l m → Alike (limited x l) (limited y m)
+unfolding limited
+alike-limit p q = like-cond (like-lt p (like-neg q)) (like-neg q) (like-cond (like-lt q p) q p)
 
 -- ---- x - x is 0 for a finite x, of either sign, and a NaN for any other
 zero-eq : (z : Float) (p c : ℕ) → 0 < c → Val z p p c → T (eq z zero₀)

@@ -1,22 +1,25 @@
 -- `floored` is exact: its value is the whole number itself. It is at most x, and x is below it plus one, so that it is the greatest whole number not above x.
--- A whole number is its own floor, as every value from 2^52 up is. Assumes nothing.
-use mathlib.Core.Path.{_≡_, refl, ap, _∙_, subst}
-use Prim.Native.Nat.{ℕ, suc, _+_, _-_, _*_, _/_, _^_, _≤_, _<_}
-use native.Mathlib.Nat.{le-trans, le-of-eq, zero-lt-suc, mul-one, mul-comm, div-le-self, div-mul-le-self, div-add-mod', mod-lt, mul-div-cancel, div-lt-iff-lt-mul, mul-le-mul-right, lt-of-mul-lt-mul-right, suc-mul}
+-- A whole number is its own floor, as every value from 2^52 up is; and floats alike have floors alike. Assumes nothing.
+use mathlib.Core.Path.{_≡_, refl, sym, ap, _∙_, subst}
+use mathlib.Core.Logic.{_⊎_, inl, inr}
+use Prim.Native.Nat.{ℕ, zero, suc, _+_, _-_, _*_, _/_, _^_, _≤_, _<_}
+use native.Mathlib.Nat.{le-trans, le-of-eq, zero-lt-suc, zero-mul, mul-one, mul-comm, zero-div, div-eq-of-lt, div-le-self, div-mul-le-self, div-add-mod', mod-lt, mul-div-cancel, div-lt-iff-lt-mul, mul-le-mul-right, lt-of-mul-lt-mul-right, suc-mul}
 use native.Mathlib.Omega.{arith}
 use mathlib.Core.Bool.{Bool, true, false, not, cond}
 use lib.IntN.{ℤ, pos, negsuc}
 use lib.Dec.{T}
 use lib.Arith.{digits-div}
 use lib.Pow.{pow-pos}
-use lib.Ieee.{Float, nan, inf, fin, binary64, up, down, add, neg, le, lt, fits}
+use lib.Ieee.{Float, nan, inf, fin, binary64, up, down, round, add, neg, le, lt, fits}
 use lib.Ieee.Fits.{down-pos, round-fits}
 use lib.Ieee.Exact.{HasValue}
 use lib.Ieee.Back.{round-whole, whole-unique}
 use lib.Ieee.Scale.{finite}
 use lib.Ieee.Positive.{den, den-pos}
+use Rattle.ieee.specs.Alike.{plain, signed, Alike}
 use Rattle.ieee.specs.Constants.{one₀}
 use Rattle.ieee.specs.Fraction.{plus, less}
+use Rattle.ieee.proofs.Round.{round-zero}
 use Rattle.ieee.proofs.Order.{multiple-less, Val, own-val, has-val, vals→le, vals→lt, le→cross, not-lt→le, inside-finite, inside-size, val-same}
 use Rattle.ieee.proofs.Rounds.{add-at}
 use Rattle.ieee.proofs.Held.{fits-parts, on-grid, no-fraction}
@@ -101,12 +104,22 @@ floor-fits (fin s m e) t = round-fits binary64 s (wholeDown s (m * up e) (down e
 pub floor-le : (x : Float) → T (finite x) → T (fits binary64 x) → T (le (floored x) x)
 floor-le x p t = vals→le (floored x) x _ _ 1 _ _ (den x) (zero-lt-suc 0) (den-pos x) (floor-is x p t) (own-val x p) (let h = floor-under x p in omega arith)
 
--- ---- x is below k in size
+pub floor-one-side : (x : Float) → (floorPlus x ≡ 0) ⊎ (floorLess x ≡ 0)
+floor-one-side nan = inl refl
+floor-one-side (inf s) = inl refl
+floor-one-side (fin true m e) = inl refl
+floor-one-side (fin false m e) = inr refl
+
+-- ---- x below k, or from -k up
+pub floor-below : (x : Float) (k : ℕ) → T (finite x) → plus x < less x + k * den x → floorPlus x < k + floorLess x
+floor-below x k p h = let u = floor-under x p in lt-of-mul-lt-mul-right (den x) (omega arith)
+
+pub floor-least : (x : Float) (k : ℕ) → T (finite x) → less x ≤ plus x + k * den x → floorLess x < k + suc (floorPlus x)
+floor-least x k p h = let n = floor-next x p in lt-of-mul-lt-mul-right (den x) (omega arith)
+
+-- x is below k in size
 pub floor-size : (x : Float) (k : ℕ) → T (finite x) → plus x < less x + k * den x → less x < plus x + k * den x → (floorPlus x < k + floorLess x) × (floorLess x < k + suc (floorPlus x))
-floor-size x k p a b =
-    let lo = floor-under x p in
-    let hi = floor-next x p in
-    (lt-of-mul-lt-mul-right (den x) (omega arith), lt-of-mul-lt-mul-right (den x) (omega arith))
+floor-size x k p a b = (floor-below x k p a, floor-least x k p (omega arith))
 
 -- ---- below 2^52
 pub floor-near : (x : Float) → T (lt (neg far) x) → T (lt x far) → (floorPlus x < 2 ^ 52 + floorLess x) × (floorLess x < 2 ^ 52 + suc (floorPlus x))
@@ -162,3 +175,46 @@ far-below (fin s m e) t h =
     let g = le→cross x (fin true 1 (pos 52)) tt tt (not-lt→le (fin true 1 (pos 52)) x tt tt h) in
     let w = no-fraction binary64 x tt t (omega arith) in
     whole-floor x (w .0) (w .1) t (w .2)
+
+-- ---- of floats alike: a zero of either sign has the floor 0
+down-zero : (s : Bool) (u c : ℕ) → 0 < c → wholeDown s (0 * u) c ≡ 0
+down-zero false u c C = simp (zero-mul, zero-div)
+down-zero true u c C = div-eq-of-lt (omega arith)
+
+plus-plain : (x : Float) → floorPlus (plain x) ≡ floorPlus x
+unfolding plain
+plus-plain nan = refl
+plus-plain (inf s) = refl
+plus-plain (fin false zero e) = sym (down-zero false (up e) (down e) (down-pos e))
+plus-plain (fin true zero e) = refl
+plus-plain (fin s (suc m) e) = refl
+
+less-plain : (x : Float) → floorLess (plain x) ≡ floorLess x
+unfolding plain
+less-plain nan = refl
+less-plain (inf s) = refl
+less-plain (fin false zero e) = refl
+less-plain (fin true zero e) = sym (down-zero true (up e) (down e) (down-pos e))
+less-plain (fin s (suc m) e) = refl
+
+floored-plain : (x : Float) → plain (floored (plain x)) ≡ plain (floored x)
+unfolding plain floored
+floored-plain nan = refl
+floored-plain (inf s) = refl
+floored-plain (fin s zero e) = ap plain (zero-is false (pos 0)) ∙ sym (ap plain (zero-is s e))
+  where
+    zero-is : (s : Bool) (e : ℤ) → round binary64 s (wholeDown s (zero * up e) (down e)) 1 ≡ fin s zero (pos 0)
+    zero-is s e = ap (λ (z : ℕ). round binary64 s z 1) (down-zero s (up e) (down e) (down-pos e)) ∙ round-zero binary64 s 1 (zero-lt-suc 0)
+floored-plain (fin s (suc m) e) = refl
+
+pub alike-floor-plus : {x y : Float} → Alike x y → floorPlus x ≡ floorPlus y
+unfolding signed
+alike-floor-plus {x} {y} p = cc (plus-plain x, plus-plain y, p .same)
+
+pub alike-floor-less : {x y : Float} → Alike x y → floorLess x ≡ floorLess y
+unfolding signed
+alike-floor-less {x} {y} p = cc (less-plain x, less-plain y, p .same)
+
+pub alike-floor : {x y : Float} → Alike x y → Alike (floored x) (floored y)
+unfolding signed
+alike-floor {x} {y} p = record { same = cc (floored-plain x, floored-plain y, p .same) }

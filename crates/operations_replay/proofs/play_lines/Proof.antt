@@ -1,33 +1,37 @@
--- `operations_replay::play_lines` is safe and ends. The measure is the count of bytes that are left. Assumes nothing.
-use Prim.Native.Nat.{_≤_, _-_}
-use lib.ListN.{length}
+-- `operations_replay::play_lines` is safe and ends. The measure is the count of lines that may still come. Assumes nothing.
 use borrow.Author.Needs.{needs}
 use Rattle.operations_replay.proofs.play_lines.Statement.{statement}
 use Rattle.operations_replay.proofs.play_lines.Tie as tie
 
 abbrev Inv-loop : tie.InvT-loop
-Inv-loop table text tally₀ at₀ tally at = at ≤ length text
+Inv-loop table tally₀ left₀ tally left = Unit {0}
 
 abbrev μ-loop : tie.MeasureT-loop
-μ-loop table text tally₀ at₀ tally at = length text - at
+μ-loop table tally₀ left₀ tally left = left
 
 loop-holds : tie.Need-loop-holds Inv-loop μ-loop
 loop-holds c = search needs
 
-line-end-requires : tie.Need-line-end-requires Inv-loop μ-loop
-line-end-requires c κs = search needs
+slice-aggregate-read-full : tie.Need-slice-aggregate-read-full Inv-loop μ-loop
+slice-aggregate-read-full c = search needs
 
-sub-play-line : tie.Need-sub-play-line Inv-loop μ-loop
-sub-play-line c = search needs
+read-full-requires : tie.Need-read-full-requires Inv-loop μ-loop
+read-full-requires c κs = search needs
 
-part-play-line-start : tie.Need-part-play-line-start Inv-loop μ-loop
-part-play-line-start c = search needs
+returns : tie.Need-returns Inv-loop μ-loop
+returns c = search needs
 
-part-play-line-end : tie.Need-part-play-line-end Inv-loop μ-loop
-part-play-line-end c = search needs
+array-share-prefix-line : tie.Need-array-share-prefix-line Inv-loop μ-loop
+array-share-prefix-line c = search needs
+
+slice-aggregate-play-line : tie.Need-slice-aggregate-play-line Inv-loop μ-loop
+slice-aggregate-play-line c = search needs
 
 play-line-requires : tie.Need-play-line-requires Inv-loop μ-loop
 play-line-requires c κs = search needs
+
+sub-left : tie.Need-sub-left Inv-loop μ-loop
+sub-left c = search needs
 
 loop-less : tie.Need-loop-less Inv-loop μ-loop
 loop-less c = search needs
@@ -35,8 +39,11 @@ loop-less c = search needs
 loop-again : tie.Need-loop-again Inv-loop μ-loop
 loop-again c = search needs
 
-returns : tie.Need-returns Inv-loop μ-loop
-returns c = search needs
+too-long-requires : tie.Need-too-long-requires Inv-loop μ-loop
+too-long-requires c κs = search needs
+
+returns-2 : tie.Need-returns-2 Inv-loop μ-loop
+returns-2 c = search needs
 
 pub play-lines-spec : {M : Type 1} → statement M
 play-lines-spec =
@@ -45,11 +52,14 @@ play-lines-spec =
     Inv-loop
     μ-loop
     loop-holds
-    line-end-requires
-    sub-play-line
-    part-play-line-start
-    part-play-line-end
+    slice-aggregate-read-full
+    read-full-requires
+    returns
+    array-share-prefix-line
+    slice-aggregate-play-line
     play-line-requires
+    sub-left
     loop-less
     loop-again
-    returns)
+    too-long-requires
+    returns-2)

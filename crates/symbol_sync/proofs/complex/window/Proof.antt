@@ -1,0 +1,89 @@
+-- `symbol_sync::complex::window` meets its contract, by what its callees ensure. Assumes nothing.
+use mathlib.Core.Path.{_∙_}
+use mathlib.Core.List.{[], _∷_}
+use Prim.Native.Nat.{_+_, _-_}
+use native.Mathlib.Omega.{arith}
+use Rattle.values.specs.Samples.{samples}
+use Rattle.timing.specs.Sample.{complex}
+use Rattle.symbol_sync.specs.Complex.{hist}
+use Rattle.timing.proofs.Laws.Line.{past-history}
+use borrow.Author.Needs.{needs}
+use Rattle.symbol_sync.proofs.complex.window.Statement.{statement}
+use Rattle.symbol_sync.proofs.complex.window.Tie as tie
+
+sub-at : tie.Need-sub-at
+sub-at c = search needs
+
+at-requires : tie.Need-at-requires
+at-requires c κs = search needs
+
+at-requires-2 : tie.Need-at-requires-2
+at-requires-2 c κs = search needs
+
+add-at : tie.Need-add-at
+add-at c = search needs
+
+at-requires-3 : tie.Need-at-requires-3
+at-requires-3 c κs = search needs
+
+add-at-2 : tie.Need-add-at-2
+add-at-2 c = search needs
+
+at-requires-4 : tie.Need-at-requires-4
+at-requires-4 c κs = search needs
+
+read-requires : tie.Need-read-requires
+read-requires c κs = search needs
+
+sub-read : tie.Need-sub-read
+sub-read c = search needs
+
+read-requires-2 : tie.Need-read-requires-2
+read-requires-2 c κs = search needs
+
+sub-read-2 : tie.Need-sub-read-2
+sub-read-2 c = search needs
+
+read-requires-3 : tie.Need-read-requires-3
+read-requires-3 c κs = search needs
+
+sub-read-3 : tie.Need-sub-read-3
+sub-read-3 c = search needs
+
+read-requires-4 : tie.Need-read-requires-4
+read-requires-4 c κs = search needs
+
+returns : tie.Need-returns
+returns c = search needs
+
+returns-2 : tie.Need-returns-2
+returns-2 c =
+    let a = c .before .before .before .before .before .before .args in
+    let i = a .i in
+    let past = past-history (hist (a .h)) (samples (a .input .now)) (complex .zero) in
+    let w = c .before .before .before .read .ensures ∙ past (i - 1) (i - 4) (omega arith) in
+    let x = c .before .before .read2 .ensures ∙ past i (i - 3) (omega arith) in
+    let y = c .before .read3 .ensures ∙ past (i + 1) (i - 2) (omega arith) in
+    let z = c .read4 .ensures ∙ past (i + 2) (i - 1) (omega arith) in
+    λ j. w j ∷ x j ∷ y j ∷ z j ∷ []
+
+pub window-spec : {M : Type 1} → statement M
+window-spec =
+    tie.close
+    (tie.spec
+    sub-at
+    at-requires
+    at-requires-2
+    add-at
+    at-requires-3
+    add-at-2
+    at-requires-4
+    read-requires
+    sub-read
+    read-requires-2
+    sub-read-2
+    read-requires-3
+    sub-read-3
+    read-requires-4
+    returns
+    returns-2)

@@ -1,0 +1,37 @@
+-- The structs of the complex loop as the records that the definitions are over. Definitions only.
+use mathlib.Core.List.{List}
+use lib.Ieee.{Float}
+use Rattle.values.specs.declared.sample.C32.{C32}
+use Rattle.values.specs.Samples.{samples}
+use Rattle.values.specs.Answer.{number, consumed, produced}
+use Rattle.timing.specs.Loop.{Track}
+use Rattle.timing.specs.Run.{Hist, Sync, Opening, opened, refused, Outcome}
+use Rattle.timing.specs.Run as run
+use Rattle.symbol_sync.specs.declared.complex.Hist as declaredHist
+use Rattle.symbol_sync.specs.declared.complex.Track as declaredTrack
+use Rattle.symbol_sync.specs.declared.complex.SymbolSyncState.{SymbolSyncState}
+use Rattle.symbol_sync.specs.declared.complex.Ran as declaredRan
+use Rattle.symbol_sync.specs.declared.complex.SetUp.{SetUp}
+use Rattle.symbol_sync.specs.declared.complex.SetUp.the-variants.{Ready, Refused}
+
+abbrev pub hist : declaredHist.Hist → Hist C32
+hist h = record { a = h .a; b = h .b; c = h .c }
+
+abbrev pub track : declaredTrack.Track → Track C32
+track s = record { clock = s .clock; yPrev = s .«y_prev»; dPrev = s .«d_prev»; mid = s .mid; midReady = s .«mid_ready»; started = s .started }
+
+abbrev pub sync : SymbolSyncState → Sync C32
+sync s = record { params = s .params; hist = hist (s .hist); track = track (s .track) }
+
+-- the history followed by the input's samples
+abbrev pub line : declaredHist.Hist → List Float → List C32
+line h xs = run.line (hist h) (samples xs)
+
+-- a run's answer and state, and what the output holds
+abbrev pub answered : declaredRan.Ran → List Float → Outcome C32
+answered r ys = record { number = number (r .answer); consumed = consumed (r .answer); produced = produced (r .answer); state = sync (r .state); output = ys }
+
+-- a set-up's answer
+abbrev pub opening : SetUp → Opening C32
+opening (Ready s) = opened (sync s)
+opening (Refused n) = refused n

@@ -1,0 +1,34 @@
+-- The structs of the real loop as the records that the definitions are over. Definitions only.
+use mathlib.Core.List.{List}
+use lib.Ieee.{Float}
+use Rattle.timing.specs.Loop.{Track}
+use Rattle.timing.specs.Run.{Hist, Sync, Opening, opened, refused, Outcome}
+use Rattle.timing.specs.Run as run
+use Rattle.symbol_sync.specs.declared.real.Hist as declaredHist
+use Rattle.symbol_sync.specs.declared.real.Track as declaredTrack
+use Rattle.symbol_sync.specs.declared.real.SymbolSyncState.{SymbolSyncState}
+use Rattle.symbol_sync.specs.declared.real.Ran as declaredRan
+use Rattle.symbol_sync.specs.declared.real.SetUp.{SetUp}
+use Rattle.symbol_sync.specs.declared.real.SetUp.the-variants.{Ready, Refused}
+
+abbrev pub hist : declaredHist.Hist → Hist Float
+hist h = record { a = h .a; b = h .b; c = h .c }
+
+abbrev pub track : declaredTrack.Track → Track Float
+track s = record { clock = s .clock; yPrev = s .«y_prev»; dPrev = s .«d_prev»; mid = s .mid; midReady = s .«mid_ready»; started = s .started }
+
+abbrev pub sync : SymbolSyncState → Sync Float
+sync s = record { params = s .params; hist = hist (s .hist); track = track (s .track) }
+
+-- the history followed by the input
+abbrev pub line : declaredHist.Hist → List Float → List Float
+line h xs = run.line (hist h) xs
+
+-- a run's counts and state, and what the output holds
+abbrev pub answered : declaredRan.Ran → List Float → Outcome Float
+answered r ys = record { number = 0; consumed = r .progress .consumed; produced = r .progress .produced; state = sync (r .state); output = ys }
+
+-- a set-up's answer
+abbrev pub opening : SetUp → Opening Float
+opening (Ready s) = opened (sync s)
+opening (Refused n) = refused n

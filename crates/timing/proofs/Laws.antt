@@ -1,0 +1,23 @@
+-- The laws of this crate's definitions.
+pub mod Rows
+pub mod Setup
+pub mod Half
+pub mod Pace
+pub mod Step
+pub mod Middle
+pub mod Strobe
+pub mod Clock
+pub mod Inside
+pub mod Place
+pub mod Fresh
+pub mod Line
+pub mod Taken
+pub mod Loop
+pub mod Shown
+pub mod End
+pub mod Run
+pub mod Turning
+pub mod Alike
+pub mod TurnedRun
+pub mod Turned
+pub mod Cases

@@ -1,0 +1,48 @@
+-- The source's `Internal` errors never occur, and the position between calls has a bound: each of its checks asks of a place what a running clock gives. Assumes nothing.
+use mathlib.Core.Bool.{Bool, true, false, cond}
+use Prim.Native.Nat.{ℕ, _+_, _-_, _≤_, _<_, _^_, min}
+use native.Mathlib.Omega.{arith}
+use lib.Dec.{T}
+use lib.Ieee.{Float}
+use lib.Ieee.Scale.{finite}
+use Rattle.numbers.specs.Whole.{floorPlus}
+use Rattle.timing.specs.declared.params.Params.{Params}
+use Rattle.timing.specs.declared.clock.Clock.{Clock}
+use Rattle.timing.specs.Clock.{midIndex, moved}
+use Rattle.timing.specs.Given.{Running}
+use Rattle.timing.proofs.Laws.Clock.{running-able, running-pending}
+
+-- the checks of a run over n input samples, `mid` if the middle is lacking
+pub record Inside (p : Params) (c : Clock) (mid : Bool) (n : ℕ) : Type 0 where
+  -- `mid_position`: the sum of i and the floor, which is no truncated one, has a sample before it
+  pub middle : T mid → (1 ≤ midIndex c) × (midIndex c ≤ c .i)
+  -- `window`: so has the strobe's place
+  pub strobe : 1 ≤ c .i
+  -- the sum of i and the floor after a strobe that can be worked out
+  pub next : c .i ≤ n → n < 2 ^ 63 → (e : Float) → T (finite e) → c .i + floorPlus (moved p c e) < 2 ^ 64
+  -- the count to consume is the place needed next, less 1
+  pub pending : 1 ≤ cond mid (midIndex c) (c .i)
+  -- `at`: the new history ends at an index of the n + 3 samples
+  pub history : min (cond mid (midIndex c) (c .i) - 1) n + 2 < n + 3
+
+pub inside : (p : Params) (c : Clock) (mid : Bool) (n : ℕ) → Running p c mid n → Inside p c mid n
+inside p c mid n g =
+    record {
+      middle = middle-in mid g;
+      strobe = g .first;
+      next = λ h k e E. running-able p c mid n g h k e E .room;
+      pending = running-pending p c mid n g .0;
+      history = omega arith;
+    }
+  where
+    middle-in : (mid : Bool) → Running p c mid n → T mid → (1 ≤ midIndex c) × (midIndex c ≤ c .i)
+    middle-in true g l = running-pending p c true n g
+    middle-in false g l = absurd l
+
+-- `window` and `at`: a window whose place has a sample before it and two after it lies in the samples
+pub window-inside : (len i j : ℕ) → 1 ≤ i → i + 2 < len → j < 4 → i - 1 + j < len
+window-inside len i j h k l = omega arith
+
+-- "Between calls i is at most 1,312,502."
+pub position-bound : (p : Params) (c : Clock) (mid : Bool) → Running p c mid 0 → c .i ≤ 1312502
+position-bound p c mid g = let f = g .far in omega arith

@@ -1,0 +1,53 @@
+-- One output place, over any sample type: the middle is taken or left by two tests, and a strobe is made of its parts. Assumes nothing.
+use mathlib.Core.Path.{_≡_, sym, ap, _∙_}
+use mathlib.Core.Bool.{Bool, true, false, _&&_, cond}
+use mathlib.Core.List.{List}
+use Prim.Native.Nat.{ℕ, _≤_, _<_}
+use borrow.Author.Tests.{le-leb, lt-leb}
+use lib.Dec.{leb}
+use lib.ListN.{length}
+use lib.Ieee.{Float}
+use Rattle.timing.specs.declared.params.Params.{Params}
+use Rattle.timing.specs.declared.clock.Clock.{Clock}
+use Rattle.timing.specs.Sample.{Ops}
+use Rattle.timing.specs.Clock.{midIndex, midPart, advanced, settled, midLeft}
+use Rattle.timing.specs.Loop.{Track, lacks, there, valueAt, withMid, midTaken, decision, errorOf, strobed}
+use Rattle.timing.specs.Run.{Hist, line}
+use Rattle.timing.proofs.Laws.Line.{there-within}
+
+-- ---- the middle, with n samples of input
+module _ {A : Type 0} (o : Ops A) (p : Params) (h : Hist A) (xs : List A) (n : ℕ) (e : length xs ≡ n) (s : Track A) where
+  abbrev middle : A
+  middle = valueAt o (line h xs) (midIndex (s .clock)) (midPart (s .clock))
+
+  -- the two tests as the definition has them
+  abbrev by : Bool → Bool → Track A
+  by lack near = cond (lack && near) (withMid s middle) s
+
+  near-within : there (line h xs) (midIndex (s .clock)) ≡ leb (midIndex (s .clock)) n
+  near-within = there-within h xs (midIndex (s .clock)) n e
+
+  pub mid-taken : (m : A) → lacks p s ≡ true → midIndex (s .clock) ≤ n → m ≡ middle → withMid s m ≡ midTaken o p (line h xs) s
+  unfolding midTaken
+  mid-taken m lack within is-m = ap (withMid s) is-m ∙ (λ j. by (sym lack j) (sym (near-within ∙ le-leb _ _ within) j))
+
+  pub mid-too-far : lacks p s ≡ true → n < midIndex (s .clock) → s ≡ midTaken o p (line h xs) s
+  unfolding midTaken
+  mid-too-far lack beyond = λ j. by (sym lack j) (sym (near-within ∙ lt-leb _ _ beyond) j)
+
+  pub mid-not-lacking : lacks p s ≡ false → s ≡ midTaken o p (line h xs) s
+  unfolding midTaken
+  mid-not-lacking held = λ j. by (sym held j) (there (line h xs) (midIndex (s .clock)))
+
+-- ---- the strobe y
+pub strobed-parts : {A : Type 0} (o : Ops A) (p : Params) (s : Track A) (y d : A) (x e : Float) (c : Clock) (ready : Bool)
+    → d ≡ decision o (p .ted) (s .dPrev) y
+    → x ≡ errorOf o (p .ted) s y d
+    → e ≡ settled (s .started) x
+    → c ≡ advanced p (s .clock) e
+    → ready ≡ midLeft (p .ted) (s .midReady)
+    → record { clock = c; yPrev = y; dPrev = d; mid = s .mid; midReady = ready; started = true } ≡ strobed o p s y
+unfolding strobed
+strobed-parts o p s y d x e c ready is-d is-x is-e is-c is-ready =
+    let clock-is = is-c ∙ ap (advanced p (s .clock)) (is-e ∙ ap (settled (s .started)) (is-x ∙ ap (errorOf o (p .ted) s y) is-d)) in
+    λ j. record { clock = clock-is j; yPrev = y; dPrev = is-d j; mid = s .mid; midReady = is-ready j; started = true }

@@ -1,0 +1,56 @@
+-- "Turned recordings", for the complex timing loop alone: a list of calls, each on the state that the last one left, and what it means that a second list is the first turned k times. Definitions only.
+use mathlib.Core.Path.{_≡_}
+use Prim.Native.Nat.{ℕ}
+use mathlib.Core.Bool.{false}
+use mathlib.Core.List.{List, [], _∷_}
+use lib.ListN.{length, take}
+use lib.Ieee.{Float}
+use Rattle.ieee.specs.Alike.{Alike}
+use Rattle.values.specs.declared.sample.C32.{C32}
+use Rattle.values.specs.Samples.{samples}
+use Rattle.values.specs.Each.{Each}
+use Rattle.values.specs.Turn.{AllTurned}
+use Rattle.timing.specs.Clock.{nextStrobe}
+use Rattle.timing.specs.Run.{Sync, Outcome, oddEither, calledComplex}
+
+-- what a call lends: the input, and the output as it is found
+pub record Call : Type 0 where
+  pub input : List Float
+  pub output : List Float
+
+-- the outcomes of a list of calls: "each call gets the receiver that the last one returned or left, a refused one too"
+unfoldable pub outcomes : Sync C32 → List Call → List (Outcome C32)
+outcomes s [] = []
+outcomes s (c ∷ cs) = let r = calledComplex s (c .input) (c .output) in r ∷ outcomes (r .state) cs
+
+-- and the state after it
+unfoldable pub after : Sync C32 → List Call → Sync C32
+after s [] = s
+after s (c ∷ cs) = after (calledComplex s (c .input) (c .output) .state) cs
+
+-- "the same buffer lengths and each input turned k times; where a call is refused, only lengths must agree"
+pub record TurnedCall (k : ℕ) (c d : Call) : Type 0 where
+  pub inputs : length (d .input) ≡ length (c .input)
+  pub outputs : length (d .output) ≡ length (c .output)
+  pub turned : oddEither (c .input) (c .output) ≡ false → AllTurned k (samples (c .input)) (samples (d .input))
+
+-- the strobes that a call produced, where it wrote them
+abbrev pub strobes : Outcome C32 → List C32
+strobes r = take (r .produced) (samples (r .output))
+
+-- "Equal are all numbers and counts answered in the list"; "Each produced strobe is the first list's turned k times"
+pub record TurnedOutcome (k : ℕ) (q r : Outcome C32) : Type 0 where
+  pub number : r .number ≡ q .number
+  pub consumed : r .consumed ≡ q .consumed
+  pub produced : r .produced ≡ q .produced
+  pub turned : AllTurned k (strobes q) (strobes r)
+
+-- "and, after it, … instant ((i - 3) + mu), pace (omega)"
+pub record SameClock (s t : Sync C32) : Type 0 where
+  pub instant : Alike (nextStrobe (t .track .clock)) (nextStrobe (s .track .clock))
+  pub pace : Alike (t .track .clock .omega) (s .track .clock .omega)
+
+-- the single claim about two lists of calls, from the states s and t
+pub record TurnedList (k : ℕ) (s t : Sync C32) (cs ds : List Call) : Type 0 where
+  pub answers : Each (TurnedOutcome k) (outcomes s cs) (outcomes t ds)
+  pub clocks : SameClock (after s cs) (after t ds)

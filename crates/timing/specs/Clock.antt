@@ -1,0 +1,93 @@
+-- The clock, which no sample enters: a place between samples, the middle's place, and the clock after a strobe with the error e. In f64. Definitions only.
+use mathlib.Core.Path.{_≡_}
+use Prim.Native.Nat.{ℕ, _+_, _-_, _^_, _≤_, _<_}
+use mathlib.Core.Bool.{Bool, true, false, not, _&&_, cond}
+use lib.Dec.{T}
+use lib.IntN.{pos, negsuc}
+use lib.Ieee.{Float, fin, binary64, add, sub, mul, lt, ofInt, fits}
+use lib.Ieee.Scale.{finite}
+use Rattle.ieee.specs.Constants.{zero₀, half₀}
+use Rattle.numbers.specs.Denormal.{flushed}
+use Rattle.numbers.specs.Range.{limited}
+use Rattle.numbers.specs.Whole.{floored, floorPlus, floorLess}
+use Rattle.timing.specs.declared.params.Ted.{Ted}
+use Rattle.timing.specs.declared.params.Ted.the-variants.{Gardner, MuellerMuller}
+use Rattle.timing.specs.declared.params.Params.{Params}
+use Rattle.timing.specs.declared.clock.Clock.{Clock}
+
+abbrev pub quarter₀ : Float
+quarter₀ = fin false 1 (negsuc 1)
+
+abbrev pub three₀ : Float
+three₀ = fin false 3 (pos 0)
+
+-- "The next strobe is reported as (i - 3) + mu"
+unfoldable pub nextStrobe : Clock → Float
+nextStrobe c = add binary64 (sub binary64 (ofInt binary64 (pos (c .i))) three₀) (c .mu)
+
+-- the place v after i: "i + floor(v), fraction v - floor(v)"
+abbrev pub wholeAt : ℕ → Float → ℕ
+wholeAt i v = i + floorPlus v - floorLess v
+
+abbrev pub partOf : Float → Float
+partOf v = sub binary64 v (floored v)
+
+-- "v = mu - omega × 0.5"
+unfoldable pub midway : Clock → Float
+midway c = sub binary64 (c .mu) (mul binary64 (c .omega) half₀)
+
+-- the middle's place
+abbrev pub midIndex : Clock → ℕ
+midIndex c = wholeAt (c .i) (midway c)
+
+abbrev pub midPart : Clock → Float
+midPart c = partOf (midway c)
+
+-- "integ = flush(integ + ki × e) limited to ±lim"
+unfoldable pub newInteg : Params → Clock → Float → Float
+newInteg p c e = limited (flushed binary64 (add binary64 (c .integ) (mul binary64 (p .ki) e))) (p .lim)
+
+-- "omega = sps + integ"
+unfoldable pub newOmega : Params → Clock → Float → Float
+newOmega p c e = add binary64 (p .sps) (newInteg p c e)
+
+-- "v = (mu + omega) + step, where step is kp × e limited to ± omega × 0.25"
+unfoldable pub moved : Params → Clock → Float → Float
+moved p c e = add binary64 (add binary64 (c .mu) (newOmega p c e)) (limited (mul binary64 (p .kp) e) (mul binary64 (newOmega p c e) quarter₀))
+
+-- "i grows by floor(v), mu = v - floor(v)"
+unfoldable pub advanced : Params → Clock → Float → Clock
+advanced p c e = let v = moved p c e in record { i = wholeAt (c .i) v; mu = partOf v; omega = newOmega p c e; integ = newInteg p c e }
+
+-- "0 on the first strobe and 0 if not finite"
+unfoldable pub settled : Bool → Float → Float
+settled started e = cond started (cond (finite e) e zero₀) zero₀
+
+-- whether a middle is still to be taken: "Gardner, once started and holding no middle"
+unfoldable pub lacking : Ted → Bool → Bool → Bool
+lacking Gardner started ready = started && not ready
+lacking MuellerMuller started ready = false
+
+-- whether a middle is held after a strobe, "which spends the middle"
+unfoldable pub midLeft : Ted → Bool → Bool
+midLeft Gardner ready = false
+midLeft MuellerMuller ready = ready
+
+-- ---- what a move by floor(v) asks: back from i, or on
+pub record Back (i : ℕ) (v : Float) : Type 0 where
+  pub v-fits : T (fits binary64 v)
+  pub v-finite : T (finite v)
+  pub not-on : floorPlus v ≡ 0
+  pub room : floorLess v ≤ i
+  pub small : floorLess v < 2 ^ 53
+
+pub record On (i : ℕ) (v : Float) : Type 0 where
+  pub v-fits : T (fits binary64 v)
+  pub v-finite : T (finite v)
+  pub above : T (lt zero₀ v)
+  pub room : i + floorPlus v < 2 ^ 64
+  pub small : floorPlus v < 2 ^ 53
+
+-- the clock can take any finite error
+abbrev pub Able : Params → Clock → Type 0
+Able p c = (e : Float) → T (finite e) → On (c .i) (moved p c e)

@@ -1,0 +1,9 @@
+pub mod Part
+pub mod Sample
+pub mod Gains
+pub mod Setup
+pub mod Clock
+pub mod Loop
+pub mod Given
+pub mod Run
+pub mod Calls

@@ -1,0 +1,113 @@
+-- A whole run over any sample type, a set-up's answer and a fresh state; and a call on real and on complex samples in slices of f32. Definitions only.
+use Prim.Native.Nat.{ℕ, _+_, _/_, _%_}
+use mathlib.Core.Bool.{Bool, true, false, _||_, cond}
+use mathlib.Core.List.{List, _∷_, _++_}
+use lib.Dec.{T, eqb}
+use lib.ListN.{length, getD, drop}
+use lib.Ieee.{Float}
+use Rattle.ieee.specs.Constants.{zero₀}
+use Rattle.values.specs.declared.sample.C32.{C32}
+use Rattle.values.specs.declared.error.Refusal.{Refusal}
+use Rattle.values.specs.declared.error.Refusal.the-variants.{Odd}
+use Rattle.values.specs.Refusal.{numberOf}
+use Rattle.values.specs.Samples.{samples, parts}
+use Rattle.timing.specs.declared.params.Params.{Params}
+use Rattle.timing.specs.declared.setup.Tuning.{Tuning}
+use Rattle.timing.specs.declared.setup.Tuning.the-variants.{Accepted, Refused}
+use Rattle.timing.specs.Sample.{Ops, real, complex}
+use Rattle.timing.specs.Loop.{Track, lacks, runs, consumed, trackBack}
+use Rattle.timing.specs.Given.{Running}
+
+-- ---- the state
+-- the three samples of the history, oldest first
+pub record Hist (A : Type 0) : Type 0 where
+  pub a : A
+  pub b : A
+  pub c : A
+
+pub record Sync (A : Type 0) : Type 0 where
+  pub params : Params
+  pub hist : Hist A
+  pub track : Track A
+
+-- a state that a set-up, a reset or a run has given: all that a public call requires
+abbrev pub Given : {A : Type 0} → Sync A → Type 0
+Given s = Running (s .params) (s .track .clock) (lacks (s .params) (s .track)) 0
+
+-- "Fresh or reset: three history samples zero, position i = 4, fraction mu = 0, spacing omega = sps, integ = 0, previous values zero, not started, no middle sample."
+abbrev pub fresh : {A : Type 0} → Ops A → Params → Sync A
+fresh o p =
+    let z = o .zero in
+    record {
+      params = p;
+      hist = record { a = z; b = z; c = z };
+      track = record { clock = record { i = 4; mu = zero₀; omega = p .sps; integ = zero₀ }; yPrev = z; dPrev = z; mid = z; midReady = false; started = false };
+    }
+
+-- a set-up's answer: "A refused set-up yields its number and no state."
+pub data Opening (A : Type 0) : Type 0 where
+  opened : Sync A → Opening A
+  refused : Refusal → Opening A
+
+abbrev pub openedBy : {A : Type 0} → Ops A → Tuning → Opening A
+openedBy o (Accepted p) = opened (fresh o p)
+openedBy o (Refused n) = refused n
+
+abbrev pub OpeningGiven : {A : Type 0} → Opening A → Type 0
+OpeningGiven (opened s) = Given s
+OpeningGiven (refused n) = T true
+
+-- ---- a run over the input xs, with `places` output places
+abbrev pub line : {A : Type 0} → Hist A → List A → List A
+line h xs = h .a ∷ h .b ∷ h .c ∷ xs
+
+-- "The three samples there become the history"
+unfoldable pub histAt : {A : Type 0} → Ops A → List A → ℕ → Hist A
+histAt o l k = record { a = getD l k (o .zero); b = getD l (k + 1) (o .zero); c = getD l (k + 2) (o .zero) }
+
+pub record Ran (A : Type 0) : Type 0 where
+  pub state : Sync A
+  pub taken : ℕ
+  pub values : List A
+
+unfoldable pub ran : {A : Type 0} → Ops A → Sync A → List A → ℕ → Ran A
+ran o s xs places =
+    let l = line (s .hist) xs in
+    let r = runs o (s .params) l places (s .track) in
+    let k = consumed (s .params) (r .last) (length xs) in
+    record { state = record { params = s .params; hist = histAt o l k; track = trackBack (r .last) k }; taken = k; values = r .values }
+
+-- ---- a call: document 01's number (0: done), the counts, the state, and what the output holds
+pub record Outcome (A : Type 0) : Type 0 where
+  pub number : ℕ
+  pub consumed : ℕ
+  pub produced : ℕ
+  pub state : Sync A
+  pub output : List Float
+
+-- values at the front of a slice, and the rest of it as found
+abbrev pub written : List Float → List Float → List Float
+written vs ys = vs ++ drop (length vs) ys
+
+-- what a run gives, its values stored as `slice` has them
+abbrev pub done : {A : Type 0} → (List A → List Float) → Ran A → List Float → Outcome A
+done slice r ys = record { number = 0; consumed = r .taken; produced = length (r .values); state = r .state; output = written (slice (r .values)) ys }
+
+-- "Real timing (f32 samples) has no refusal in a run."
+unfoldable pub calledReal : Sync Float → List Float → List Float → Outcome Float
+calledReal s xs ys = done (λ vs. vs) (ran real s xs (length ys)) ys
+
+-- "A refused run yields its number, counts 0 and 0, …, the same state, and every buffer unchanged."
+abbrev pub turnedAway : {A : Type 0} → Refusal → Sync A → List Float → Outcome A
+turnedAway n s ys = record { number = numberOf n; consumed = 0; produced = 0; state = s; output = ys }
+
+-- "a complex buffer has an odd count of f32"
+abbrev pub oddEither : List Float → List Float → Bool
+oddEither xs ys = eqb (length xs % 2) 1 || eqb (length ys % 2) 1
+
+-- a call whose buffers hold whole samples
+abbrev pub doneComplex : Sync C32 → List Float → List Float → Outcome C32
+doneComplex s xs ys = done parts (ran complex s (samples xs) (length ys / 2)) ys
+
+unfoldable pub calledComplex : Sync C32 → List Float → List Float → Outcome C32
+calledComplex s xs ys = cond (oddEither xs ys) (turnedAway Odd s ys) (doneComplex s xs ys)

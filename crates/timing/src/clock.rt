@@ -1,0 +1,43 @@
+// The clock, which no sample enters: the next strobe's position, the spacing and the integrator.
+ghost use mathlib.Core.Path.{_≡_};
+ghost use Rattle.timing.specs.Clock.{nextStrobe, settled};
+
+pub struct Clock {
+    // Integer part of the next strobe's position in the history followed by the input.
+    pub i: usize,
+    // Its fraction, 0 <= mu < 1.
+    pub mu: f64,
+    // The spacing of the strobes, in samples.
+    pub omega: f64,
+    // The integrator of the loop filter, in samples.
+    pub integ: f64,
+}
+
+impl Clock {
+    // The current estimate of the samples per symbol.
+    pub fn sps_estimate(self) -> f64
+        ensures { λ r. ⌜ r ≡ self .omega ⌝ }
+    {
+        self.omega
+    }
+
+    // The position of the next strobe in input samples, counted from the first sample of the next
+    // call's input. It is negative while the strobe lies in the history.
+    pub fn next_strobe(self) -> f64
+        ensures { λ r. ⌜ r ≡ nextStrobe self ⌝ }
+    {
+        (std::num::nearest_u64_to_f64(self.i as u64) - 3.0) + self.mu
+    }
+}
+
+// A detector's error as the loop takes it: 0 on the first strobe, and 0 if it is not finite.
+pub fn settle(started: bool, e: f32) -> f64
+    ensures { λ r. ⌜ r ≡ settled started e ⌝ }
+{
+    if started {
+        if numbers::is_finite_f32(e) {
+            return e as f64;
+        }
+    }
+    0.0
+}

@@ -1,0 +1,74 @@
+// The parameters of a timing state, and their readings.
+ghost use mathlib.Core.Path.{_≡_};
+
+// The timing error detector.
+pub enum Ted {
+    // (y_prev - y) m with the middle sample m half a symbol before y: two interpolations a symbol.
+    Gardner,
+    // d_prev y - d y_prev with the decisions d = sign(y): one interpolation a symbol.
+    MuellerMuller,
+}
+
+// The six values of a set-up, and the gains and the limit that it works out of them.
+pub struct Params {
+    // Samples per symbol.
+    pub sps: f64,
+    pub ted: Ted,
+    // Loop bandwidth, normalized to the symbol rate.
+    pub loop_bw: f64,
+    pub damping: f64,
+    // Largest deviation of omega from sps, as a fraction of sps.
+    pub max_deviation: f64,
+    // Slope of the detector, by which the gains are divided.
+    pub ted_gain: f64,
+    // Proportional gain, in samples per unit of the detector's output.
+    pub kp: f64,
+    // Integral gain.
+    pub ki: f64,
+    // Limit of the integrator, in samples.
+    pub lim: f64,
+}
+
+impl Params {
+    // The nominal samples per symbol.
+    pub fn sps(self) -> f64
+        ensures { λ r. ⌜ r ≡ self .sps ⌝ }
+    {
+        self.sps
+    }
+
+    // The timing error detector.
+    pub fn ted(self) -> Ted
+        ensures { λ r. ⌜ r ≡ self .ted ⌝ }
+    {
+        self.ted
+    }
+
+    // The loop bandwidth, normalized to the symbol rate.
+    pub fn loop_bw(self) -> f64
+        ensures { λ r. ⌜ r ≡ self .«loop_bw» ⌝ }
+    {
+        self.loop_bw
+    }
+
+    // The damping of the loop.
+    pub fn damping(self) -> f64
+        ensures { λ r. ⌜ r ≡ self .damping ⌝ }
+    {
+        self.damping
+    }
+
+    // The largest deviation of omega from sps, as a fraction of sps.
+    pub fn max_deviation(self) -> f64
+        ensures { λ r. ⌜ r ≡ self .«max_deviation» ⌝ }
+    {
+        self.max_deviation
+    }
+
+    // The detector gain that the loop gains are divided by.
+    pub fn ted_gain(self) -> f64
+        ensures { λ r. ⌜ r ≡ self .«ted_gain» ⌝ }
+    {
+        self.ted_gain
+    }
+}

@@ -1,0 +1,65 @@
+// Replays recorded answers of the original's timing loop, which stand on standard input: set-ups, runs
+// on real and complex samples, resets, and each field of the state after them. Says how many lines were
+// played of each kind, and how many differ from what the crate `symbol_sync` computes.
+//
+// A line has 53 bytes: a letter, then three words of 16 hexadecimal digits, each after a space, and
+// a line end. Two f32 stand in one word, the first in its high half; a real sample has zeros in the low
+// half, as a sample of the state has.
+//
+//   v  sps, loop bandwidth, damping        of the next set-up
+//   n  maximum deviation, detector gain, kind + 2 detector + 16 number: sets up; kind 1 is complex,
+//      detector 1 Mueller-Müller, the number the one it is refused with, or 0
+//   z  resets
+//   i  six f32, which go behind the input so far
+//   r  f32 of input + 2^32 f32 of output, consumed + 2^32 produced, number: runs
+//   o  the next six f32 of the output, with the filling behind what was lent
+//   a  sps, loop bandwidth, damping        of the state: the readings
+//   b  maximum deviation, detector gain, detector
+//   k  kp, ki, lim
+//   s  position, fraction, spacing
+//   h  the history's three samples
+//   y  previous strobe, previous decision, middle
+//   f  integrator, middle held + 2 started, next strobe
+mod counts;
+mod play;
+mod state;
+
+use libc::STDIN_FILENO;
+use play::Slot;
+use play::play_line;
+
+// A proved loop has to end, and nothing says that the input does. So many lines are read at most.
+const LINES: u64 = 67108864;
+
+fn main() {
+    let mut tally = [0; 16];
+    play_lines(&mut tally);
+    counts::show(&tally);
+}
+
+// Plays line after line, up to the end of the input. What is left there after the last whole line
+// counts as a line too.
+fn play_lines(tally: &mut [u64; 16]) {
+    let mut values = [0u64; 5];
+    let mut input = [0.0f32; 192];
+    let mut output = [0.0f32; 192];
+    let mut slot = Slot::Empty;
+    let mut left = LINES;
+    while left > 0 {
+        let mut line = [0u8; 53];
+        let n = io::read_full(STDIN_FILENO, &mut line);
+        if n == 0 {
+            return;
+        }
+        slot = play_line(
+            slot,
+            &line[..n],
+            &mut values,
+            &mut input,
+            &mut output,
+            tally,
+        );
+        left -= 1;
+    }
+    counts::too_long(tally);
+}

@@ -1,0 +1,17 @@
+-- A run's answer as document 01's number (0: it was accepted) and its two counts: "A refused run yields its number, counts 0 and 0". Definitions only.
+use Prim.Native.Nat.{ℕ}
+use Rattle.values.specs.declared.progress.Answer.{Answer}
+use Rattle.values.specs.declared.progress.Answer.the-variants.{Done, Refused}
+use Rattle.values.specs.Refusal.{numberOf}
+
+abbrev pub number : Answer → ℕ
+number (Done q) = 0
+number (Refused n) = numberOf n
+
+abbrev pub consumed : Answer → ℕ
+consumed (Done q) = q .consumed
+consumed (Refused n) = 0
+
+abbrev pub produced : Answer → ℕ
+produced (Done q) = q .produced
+produced (Refused n) = 0

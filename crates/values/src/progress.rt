@@ -1,0 +1,16 @@
+// The counts of a call, from timing.rs, and its answer.
+use crate::error::Refusal;
+
+// Result of a rate-changing call.
+pub struct Progress {
+    // Input samples consumed.
+    pub consumed: usize,
+    // Output samples produced.
+    pub produced: usize,
+}
+
+// The answer of a run: what it took and gave, or why it was refused.
+pub enum Answer {
+    Done(Progress),
+    Refused(Refusal),
+}
