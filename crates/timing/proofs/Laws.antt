@@ -10,9 +10,9 @@ pub mod Clock
 pub mod Inside
 pub mod Place
 pub mod Fresh
+pub mod Loop
 pub mod Line
 pub mod Taken
-pub mod Loop
 pub mod Shown
 pub mod End
 pub mod Run

@@ -3,7 +3,7 @@ use mathlib.Core.Path.{_≡_}
 use Prim.Native.Nat.{ℕ, _+_, _≤_}
 use mathlib.Core.Bool.{Bool, true}
 use lib.Dec.{T}
-use lib.Ieee.{Float, binary64, neg, add, sub, le, lt, fits}
+use lib.Ieee.{binary64, neg, add, sub, le, lt, fits}
 use Rattle.ieee.specs.Constants.{zero₀, one₀}
 use Rattle.timing.specs.declared.params.Params.{Params}
 use Rattle.timing.specs.declared.clock.Clock.{Clock}
@@ -37,5 +37,5 @@ pub record Running (p : Params) (c : Clock) (mid : Bool) (n : ℕ) : Type 0 wher
   pub params : Tuned p
   pub steady : Steady p c
   pub first : 1 ≤ c .i
-  pub far : c .i ≤ n + 1312502
+  pub far : c .i ≤ n + 1312501
   pub mid-first : T mid → 1 ≤ midIndex c

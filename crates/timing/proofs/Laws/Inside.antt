@@ -43,6 +43,6 @@ inside p c mid n g =
 pub window-inside : (len i j : ℕ) → 1 ≤ i → i + 2 < len → j < 4 → i - 1 + j < len
 window-inside len i j h k l = omega arith
 
--- "Between calls i is at most 1,312,502."
-pub position-bound : (p : Params) (c : Clock) (mid : Bool) → Running p c mid 0 → c .i ≤ 1312502
-position-bound p c mid g = let f = g .far in omega arith
+-- "Between calls i is at most 1,312,502": it is at most 1,312,501, which the source has been seen to reach
+pub position-bound : (p : Params) (c : Clock) (mid : Bool) → Running p c mid 0 → c .i ≤ 1312501
+position-bound p c mid g = g .far

@@ -3,14 +3,14 @@ use mathlib.Core.Path.{_≡_, refl, _∙_}
 use mathlib.Core.List.{List, [], _∷_}
 use Prim.Native.Nat.{ℕ, zero, suc, _+_, _<_}
 use native.Mathlib.Omega.{arith}
-use lib.Dec.{leb, leb→le, le→leb, ltb→lt, lt→ltb}
+use lib.Dec.{leb}
 use lib.ListN.{length, getD}
 use lib.Ieee.{Float}
-use Rattle.ieee.proofs.Test.{same-test}
 use Rattle.numbers.specs.Narrowing.{narrowed}
 use Rattle.timing.specs.Sample.{Ops}
 use Rattle.timing.specs.Loop.{there, windowAt, valueAt}
 use Rattle.timing.specs.Run.{Hist, line}
+use Rattle.timing.proofs.Laws.Loop.{there-leb}
 
 -- in range the default does not matter
 getD-default : {A : Type 0} (xs : List A) (k : ℕ) (y z : A) → k < length xs → getD xs k y ≡ getD xs k z
@@ -29,7 +29,7 @@ module _ {A : Type 0} (h : Hist A) (xs : List A) where
 
   -- "i + 2 is at most n + 2", of n input samples
   pub there-within : (i n : ℕ) → length xs ≡ n → there (line h xs) i ≡ leb i n
-  there-within i n e = same-test _ _ (λ t. le→leb i n (omega (arith, ltb→lt (i + 2) (length (line h xs)) t))) (λ t. lt→ltb (i + 2) (length (line h xs)) (omega (arith, leb→le i n t)))
+  there-within i n e = there-leb (line h xs) n (omega arith) i
 
 -- the value of a window, whatever is read past the window's end
 pub value-of-window : {A : Type 0} (o : Ops A) (l : List A) (i : ℕ) (mu : Float) (past : A) (w : List A) (m : Float)

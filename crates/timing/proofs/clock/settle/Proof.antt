@@ -1,7 +1,6 @@
 -- `timing::settle` meets its contract: by the flag, then by the test for a finite error, which a cast to f64 keeps. Assumes nothing.
-use mathlib.Core.Path.{_≡_, sym, ap, _∙_}
-use mathlib.Core.Bool.{Bool, true, cond}
-use lib.Dec.{T}
+use mathlib.Core.Path.{sym, _∙_}
+use mathlib.Core.Bool.{Bool, cond}
 use lib.Ieee.{Float, ofBits}
 use lib.Ieee.Scale.{finite}
 use Rattle.ieee.specs.Constants.{zero₀}

@@ -2,13 +2,12 @@
 use mathlib.Core.Path.{_≡_, sym, ap, _∙_, subst}
 use mathlib.Core.Bool.{Bool, true, false, _&&_}
 use lib.Dec.{T}
-use lib.Ieee.{binary64, ofBits, round, fits}
+use lib.Ieee.{ofBits, round}
 use lib.Ieee.Scale.{finite}
 use Rattle.ieee.specs.Constants.{zero₀}
 use Rattle.timing.specs.declared.params.Params.{Params}
 use Rattle.timing.specs.declared.setup.Gains.{Gains}
 use Rattle.timing.specs.declared.setup.Tuning.the-variants.{Accepted}
-use Rattle.timing.specs.Gains.{kpOf, kiOf}
 use Rattle.timing.specs.Setup.{decimal, inRange, positive, tuned, paramsWith}
 use Rattle.timing.specs.Given.{Tuned}
 use Rattle.timing.proofs.Laws.Rows.{first-passed, first-refused, all-passed, passes, fails}
