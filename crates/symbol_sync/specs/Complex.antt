@@ -2,6 +2,7 @@
 use mathlib.Core.List.{List}
 use lib.Ieee.{Float}
 use Rattle.values.specs.declared.sample.C32.{C32}
+use Rattle.values.specs.declared.progress.Answer.{Answer}
 use Rattle.values.specs.Samples.{samples}
 use Rattle.values.specs.Answer.{number, consumed, produced}
 use Rattle.timing.specs.Loop.{Track}
@@ -27,9 +28,12 @@ sync s = record { params = s .params; hist = hist (s .hist); track = track (s .t
 abbrev pub line : declaredHist.Hist → List Float → List C32
 line h xs = run.line (hist h) (samples xs)
 
--- a run's answer and state, and what the output holds
+-- a run's answer, the state after it and what the output holds
+abbrev pub outcomeOf : Answer → Sync C32 → List Float → Outcome C32
+outcomeOf a s ys = record { number = number a; consumed = consumed a; produced = produced a; state = s; output = ys }
+
 abbrev pub answered : declaredRan.Ran → List Float → Outcome C32
-answered r ys = record { number = number (r .answer); consumed = consumed (r .answer); produced = produced (r .answer); state = sync (r .state); output = ys }
+answered r ys = outcomeOf (r .answer) (sync (r .state)) ys
 
 -- a set-up's answer
 abbrev pub opening : SetUp → Opening C32

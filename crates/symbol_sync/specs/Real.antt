@@ -1,6 +1,7 @@
 -- The structs of the real loop as the records that the definitions are over. Definitions only.
 use mathlib.Core.List.{List}
 use lib.Ieee.{Float}
+use Rattle.values.specs.declared.progress.Progress.{Progress}
 use Rattle.timing.specs.Loop.{Track}
 use Rattle.timing.specs.Run.{Hist, Sync, Opening, opened, refused, Outcome}
 use Rattle.timing.specs.Run as run
@@ -24,9 +25,12 @@ sync s = record { params = s .params; hist = hist (s .hist); track = track (s .t
 abbrev pub line : declaredHist.Hist → List Float → List Float
 line h xs = run.line (hist h) xs
 
--- a run's counts and state, and what the output holds
+-- a run's counts, the state after it and what the output holds
+abbrev pub outcomeOf : Progress → Sync Float → List Float → Outcome Float
+outcomeOf q s ys = record { number = 0; consumed = q .consumed; produced = q .produced; state = s; output = ys }
+
 abbrev pub answered : declaredRan.Ran → List Float → Outcome Float
-answered r ys = record { number = 0; consumed = r .progress .consumed; produced = r .progress .produced; state = sync (r .state); output = ys }
+answered r ys = outcomeOf (r .progress) (sync (r .state)) ys
 
 -- a set-up's answer
 abbrev pub opening : SetUp → Opening Float

@@ -25,7 +25,7 @@ ghost use Rattle.timing.specs.Setup.{tuned};
 ghost use Rattle.timing.specs.Given.{Tuned, Running};
 ghost use Rattle.timing.specs.Loop as loop;
 ghost use Rattle.timing.specs.Run.{histAt, written, fresh, openedBy, OpeningGiven, Given, doneComplex, calledComplex};
-ghost use Rattle.symbol_sync.specs.Complex.{track, hist, sync, line, opening, answered};
+ghost use Rattle.symbol_sync.specs.Complex.{track, hist, sync, line, opening, outcomeOf, answered};
 
 // The last three samples, oldest first; index 0 of the positions.
 pub struct Hist {
@@ -256,6 +256,17 @@ pub fn run(s: SymbolSyncState, input: &[f32], output: &mut [f32]) -> Ran
         };
     }
     accepted(s, input, output)
+}
+
+// The entry over a state that the caller lends, which is brought up to date.
+pub fn symbol_sync(s: &mut SymbolSyncState, input: &[f32], output: &mut [f32]) -> Answer
+    requires { ⌜ Given (sync (now s)) ⌝ }
+    ensures outcome { λ r. ⌜ outcomeOf r (sync (now (s .exit))) (now (output .exit)) ≡ calledComplex (sync (now (s .entry))) (now (input .entry)) (now (output .entry)) ⌝ }
+    ensures given { λ _. ⌜ Given (sync (now (s .exit))) ⌝ }
+{
+    let ran = run(*s, input, output);
+    *s = ran.state;
+    ran.answer
 }
 
 // A run whose buffers hold whole samples.

@@ -20,7 +20,7 @@ ghost use Rattle.timing.specs.Setup.{tuned};
 ghost use Rattle.timing.specs.Given.{Tuned, Running};
 ghost use Rattle.timing.specs.Loop as loop;
 ghost use Rattle.timing.specs.Run.{histAt, written, fresh, openedBy, OpeningGiven, Given, calledReal};
-ghost use Rattle.symbol_sync.specs.Real.{track, hist, sync, line, opening, answered};
+ghost use Rattle.symbol_sync.specs.Real.{track, hist, sync, line, opening, outcomeOf, answered};
 
 // The last three samples, oldest first; index 0 of the positions.
 pub struct Hist {
@@ -240,6 +240,17 @@ pub fn run(s: SymbolSyncState, input: &[f32], output: &mut [f32]) -> Ran
         progress: progress,
         state: state,
     }
+}
+
+// The entry over a state that the caller lends, which is brought up to date.
+pub fn symbol_sync(s: &mut SymbolSyncState, input: &[f32], output: &mut [f32]) -> Progress
+    requires { ⌜ Given (sync (now s)) ⌝ }
+    ensures outcome { λ r. ⌜ outcomeOf r (sync (now (s .exit))) (now (output .exit)) ≡ calledReal (sync (now (s .entry))) (now (input .entry)) (now (output .entry)) ⌝ }
+    ensures given { λ _. ⌜ Given (sync (now (s .exit))) ⌝ }
+{
+    let ran = run(*s, input, output);
+    *s = ran.state;
+    ran.progress
 }
 
 // ---- Set-up

@@ -1,5 +1,6 @@
 -- The laws of this crate's definitions.
 pub mod Rows
+pub mod Exactly
 pub mod Setup
 pub mod Half
 pub mod Pace
