@@ -22,4 +22,5 @@ pub use line::read_line;
 pub use report::count;
 pub use report::differs;
 pub use report::malformed;
+pub use report::missed;
 pub use report::summary;

@@ -25,6 +25,12 @@ pub fn differs(line: &[u8], computed: u64) {
     io::write_all(STDOUT_FILENO, line);
 }
 
+// Writes a recorded line that says something else than was computed.
+pub fn missed(line: &[u8]) {
+    io::write_all(STDOUT_FILENO, b"missed ");
+    io::write_all(STDOUT_FILENO, line);
+}
+
 // Writes a line that is not an operation.
 pub fn malformed(line: &[u8]) {
     io::write_all(STDOUT_FILENO, b"malformed: ");

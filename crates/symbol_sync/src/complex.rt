@@ -46,10 +46,85 @@ pub struct Track {
     pub started: bool,
 }
 
+// The state of the loop: what a set-up settles, the history, and what a run changes.
 pub struct SymbolSyncState {
     pub params: Params,
     pub hist: Hist,
     pub track: Track,
+}
+
+// ---- Set-up
+
+// The fresh state of these parameters: a zero history, the first strobe at input sample 1, omega = sps
+// and a zero integrator.
+fn start(p: Params) -> SymbolSyncState
+    requires { ⌜ Tuned p ⌝ }
+    ensures state { λ r. ⌜ sync r ≡ fresh complex p ⌝ }
+    ensures given { λ r. ⌜ Given (sync r) ⌝ }
+{
+    let zero = C32 { re: 0.0, im: 0.0 };
+    let hist = Hist {
+        a: zero,
+        b: zero,
+        c: zero,
+    };
+    let clock = Clock {
+        i: crate::clock::START,
+        mu: 0.0,
+        omega: p.sps,
+        integ: 0.0,
+    };
+    let track = Track {
+        clock: clock,
+        y_prev: zero,
+        d_prev: zero,
+        mid: zero,
+        mid_ready: false,
+        started: false,
+    };
+    SymbolSyncState {
+        params: p,
+        hist: hist,
+        track: track,
+    }
+}
+
+// The answer of a set-up.
+pub enum SetUp {
+    Ready(SymbolSyncState),
+    Refused(Refusal),
+}
+
+// A fresh state, or the lowest number of what is wrong with the six values.
+pub fn set_up(
+    sps: f64,
+    ted: Ted,
+    loop_bw: f64,
+    damping: f64,
+    max_deviation: f64,
+    ted_gain: f64,
+) -> SetUp
+    ensures outcome { λ r. ⌜ opening r ≡ openedBy complex (tuned sps ted «loop_bw» damping «max_deviation» «ted_gain») ⌝ }
+    ensures given { λ r. ⌜ OpeningGiven (opening r) ⌝ }
+{
+    let t = timing::tune(sps, ted, loop_bw, damping, max_deviation, ted_gain);
+    match t {
+        Tuning::Accepted(p) => {
+            let s = start(p);
+            SetUp::Ready(s)
+        }
+        Tuning::Refused(n) => SetUp::Refused(n),
+    }
+}
+
+// The fresh state of the same parameters.
+pub fn reset(s: SymbolSyncState) -> SymbolSyncState
+    requires { ⌜ Given (sync s) ⌝ }
+    ensures state { λ r. ⌜ sync r ≡ fresh complex (s .params) ⌝ }
+    ensures given { λ r. ⌜ Given (sync r) ⌝ }
+{
+    let p = s.params;
+    start(p)
 }
 
 // ---- Windows
@@ -185,6 +260,7 @@ fn write(output: &mut [f32], k: usize, y: C32)
     output[2 * k + 1] = y.im;
 }
 
+// What the loop has come to.
 pub struct Strobed {
     pub track: Track,
     pub produced: usize,
@@ -298,77 +374,4 @@ fn accepted(s: SymbolSyncState, input: &[f32], output: &mut [f32]) -> Ran
         answer: answer,
         state: state,
     }
-}
-
-// ---- Set-up
-
-// The fresh state of these parameters: a zero history, the first strobe at input sample 1, omega = sps
-// and a zero integrator.
-fn start(p: Params) -> SymbolSyncState
-    requires { ⌜ Tuned p ⌝ }
-    ensures state { λ r. ⌜ sync r ≡ fresh complex p ⌝ }
-    ensures given { λ r. ⌜ Given (sync r) ⌝ }
-{
-    let zero = C32 { re: 0.0, im: 0.0 };
-    let hist = Hist {
-        a: zero,
-        b: zero,
-        c: zero,
-    };
-    let clock = Clock {
-        i: crate::clock::START,
-        mu: 0.0,
-        omega: p.sps,
-        integ: 0.0,
-    };
-    let track = Track {
-        clock: clock,
-        y_prev: zero,
-        d_prev: zero,
-        mid: zero,
-        mid_ready: false,
-        started: false,
-    };
-    SymbolSyncState {
-        params: p,
-        hist: hist,
-        track: track,
-    }
-}
-
-pub enum SetUp {
-    Ready(SymbolSyncState),
-    Refused(Refusal),
-}
-
-// A fresh state, or the lowest number of what is wrong with the six values.
-pub fn set_up(
-    sps: f64,
-    ted: Ted,
-    loop_bw: f64,
-    damping: f64,
-    max_deviation: f64,
-    ted_gain: f64,
-) -> SetUp
-    ensures outcome { λ r. ⌜ opening r ≡ openedBy complex (tuned sps ted «loop_bw» damping «max_deviation» «ted_gain») ⌝ }
-    ensures given { λ r. ⌜ OpeningGiven (opening r) ⌝ }
-{
-    let t = timing::tune(sps, ted, loop_bw, damping, max_deviation, ted_gain);
-    match t {
-        Tuning::Accepted(p) => {
-            let s = start(p);
-            SetUp::Ready(s)
-        }
-        Tuning::Refused(n) => SetUp::Refused(n),
-    }
-}
-
-// The fresh state of the same parameters.
-pub fn reset(s: SymbolSyncState) -> SymbolSyncState
-    requires { ⌜ Given (sync s) ⌝ }
-    ensures state { λ r. ⌜ sync r ≡ fresh complex (s .params) ⌝ }
-    ensures given { λ r. ⌜ Given (sync r) ⌝ }
-{
-    let p = s.params;
-    start(p)
 }

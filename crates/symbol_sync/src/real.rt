@@ -41,10 +41,84 @@ pub struct Track {
     pub started: bool,
 }
 
+// The state of the loop: what a set-up settles, the history, and what a run changes.
 pub struct SymbolSyncState {
     pub params: Params,
     pub hist: Hist,
     pub track: Track,
+}
+
+// ---- Set-up
+
+// The fresh state of these parameters: a zero history, the first strobe at input sample 1, omega = sps
+// and a zero integrator.
+fn start(p: Params) -> SymbolSyncState
+    requires { ⌜ Tuned p ⌝ }
+    ensures state { λ r. ⌜ sync r ≡ fresh real p ⌝ }
+    ensures given { λ r. ⌜ Given (sync r) ⌝ }
+{
+    let hist = Hist {
+        a: 0.0,
+        b: 0.0,
+        c: 0.0,
+    };
+    let clock = Clock {
+        i: crate::clock::START,
+        mu: 0.0,
+        omega: p.sps,
+        integ: 0.0,
+    };
+    let track = Track {
+        clock: clock,
+        y_prev: 0.0,
+        d_prev: 0.0,
+        mid: 0.0,
+        mid_ready: false,
+        started: false,
+    };
+    SymbolSyncState {
+        params: p,
+        hist: hist,
+        track: track,
+    }
+}
+
+// The answer of a set-up.
+pub enum SetUp {
+    Ready(SymbolSyncState),
+    Refused(Refusal),
+}
+
+// A fresh state, or the lowest number of what is wrong with the six values.
+pub fn set_up(
+    sps: f64,
+    ted: Ted,
+    loop_bw: f64,
+    damping: f64,
+    max_deviation: f64,
+    ted_gain: f64,
+) -> SetUp
+    ensures outcome { λ r. ⌜ opening r ≡ openedBy real (tuned sps ted «loop_bw» damping «max_deviation» «ted_gain») ⌝ }
+    ensures given { λ r. ⌜ OpeningGiven (opening r) ⌝ }
+{
+    let t = timing::tune(sps, ted, loop_bw, damping, max_deviation, ted_gain);
+    match t {
+        Tuning::Accepted(p) => {
+            let s = start(p);
+            SetUp::Ready(s)
+        }
+        Tuning::Refused(n) => SetUp::Refused(n),
+    }
+}
+
+// The fresh state of the same parameters.
+pub fn reset(s: SymbolSyncState) -> SymbolSyncState
+    requires { ⌜ Given (sync s) ⌝ }
+    ensures state { λ r. ⌜ sync r ≡ fresh real (s .params) ⌝ }
+    ensures given { λ r. ⌜ Given (sync r) ⌝ }
+{
+    let p = s.params;
+    start(p)
 }
 
 // ---- Windows
@@ -160,6 +234,7 @@ fn strobe(p: Params, s: Track, y: f32) -> Track
 
 // ---- A run
 
+// What the loop has come to.
 pub struct Strobed {
     pub track: Track,
     pub produced: usize,
@@ -251,76 +326,4 @@ pub fn symbol_sync(s: &mut SymbolSyncState, input: &[f32], output: &mut [f32]) -
     let ran = run(*s, input, output);
     *s = ran.state;
     ran.progress
-}
-
-// ---- Set-up
-
-// The fresh state of these parameters: a zero history, the first strobe at input sample 1, omega = sps
-// and a zero integrator.
-fn start(p: Params) -> SymbolSyncState
-    requires { ⌜ Tuned p ⌝ }
-    ensures state { λ r. ⌜ sync r ≡ fresh real p ⌝ }
-    ensures given { λ r. ⌜ Given (sync r) ⌝ }
-{
-    let hist = Hist {
-        a: 0.0,
-        b: 0.0,
-        c: 0.0,
-    };
-    let clock = Clock {
-        i: crate::clock::START,
-        mu: 0.0,
-        omega: p.sps,
-        integ: 0.0,
-    };
-    let track = Track {
-        clock: clock,
-        y_prev: 0.0,
-        d_prev: 0.0,
-        mid: 0.0,
-        mid_ready: false,
-        started: false,
-    };
-    SymbolSyncState {
-        params: p,
-        hist: hist,
-        track: track,
-    }
-}
-
-pub enum SetUp {
-    Ready(SymbolSyncState),
-    Refused(Refusal),
-}
-
-// A fresh state, or the lowest number of what is wrong with the six values.
-pub fn set_up(
-    sps: f64,
-    ted: Ted,
-    loop_bw: f64,
-    damping: f64,
-    max_deviation: f64,
-    ted_gain: f64,
-) -> SetUp
-    ensures outcome { λ r. ⌜ opening r ≡ openedBy real (tuned sps ted «loop_bw» damping «max_deviation» «ted_gain») ⌝ }
-    ensures given { λ r. ⌜ OpeningGiven (opening r) ⌝ }
-{
-    let t = timing::tune(sps, ted, loop_bw, damping, max_deviation, ted_gain);
-    match t {
-        Tuning::Accepted(p) => {
-            let s = start(p);
-            SetUp::Ready(s)
-        }
-        Tuning::Refused(n) => SetUp::Refused(n),
-    }
-}
-
-// The fresh state of the same parameters.
-pub fn reset(s: SymbolSyncState) -> SymbolSyncState
-    requires { ⌜ Given (sync s) ⌝ }
-    ensures state { λ r. ⌜ sync r ≡ fresh real (s .params) ⌝ }
-    ensures given { λ r. ⌜ Given (sync r) ⌝ }
-{
-    let p = s.params;
-    start(p)
 }

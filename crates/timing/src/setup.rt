@@ -42,6 +42,7 @@ fn above_zero(x: f64) -> bool
     false
 }
 
+// Whether both gains are finite.
 fn both_finite(x: f64, y: f64) -> bool
     ensures { λ r. ⌜ r ≡ (finite x && finite y) ⌝ }
 {
@@ -51,6 +52,7 @@ fn both_finite(x: f64, y: f64) -> bool
     false
 }
 
+// The proportional and the integral gain.
 pub struct Gains {
     pub kp: f64,
     pub ki: f64,

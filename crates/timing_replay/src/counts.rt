@@ -44,7 +44,7 @@ pub fn count(tally: &mut [u64; 16], letter: u8, line: &[u8], agrees: bool) {
     add(tally, LINES);
     if !agrees {
         if tally[DIFFER] < 20 {
-            replay::malformed(line);
+            replay::missed(line);
         }
         add(tally, DIFFER);
     }
