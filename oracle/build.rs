@@ -10,6 +10,8 @@ use std::path::{Path, PathBuf};
 const DEFAULT_SOURCES: &str = "../../shared/docs/src";
 /// The original crate's own folder inside the sources.
 const CRATE: &str = "crates/core/sdrk-core/src";
+/// The ported timing loop's folder, seen from this one, and its name.
+const PORTED: (&str, &str) = ("../target/staticlib", "timing_once");
 /// What the original files may do that we do not look at.
 const ALLOW: &str = "#[allow(dead_code, unused_imports, clippy::all, clippy::pedantic)]";
 
@@ -37,6 +39,26 @@ fn main() {
     let tree = module_tree(&here, &sources_folder(&here));
     write(&out.join("original.rs"), &tree);
     write(&out.join("cosine_table.rs"), &cosine_table(&here));
+    if env::var_os("CARGO_FEATURE_PORTED").is_some() {
+        link_ported(&here);
+    }
+}
+
+/// Links the ported timing loop.
+fn link_ported(here: &Path) {
+    let (folder, name) = PORTED;
+    let file = here.join(folder).join(format!("lib{name}.a"));
+    assert!(
+        file.is_file(),
+        "there is no {}: 'rt staticlib {name}' writes it",
+        file.display()
+    );
+    println!("cargo::rerun-if-changed={}", file.display());
+    println!(
+        "cargo::rustc-link-search=native={}",
+        here.join(folder).display()
+    );
+    println!("cargo::rustc-link-lib=static={name}");
 }
 
 /// The original crate's folder. A relative `SDRK_SRC` is seen from this folder.

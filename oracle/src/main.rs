@@ -22,6 +22,8 @@ mod random;
 mod refusal;
 mod runs;
 mod signal;
+#[cfg(feature = "ported")]
+mod speed;
 
 /// The original's first implementation, the one that is ported.
 pub struct Fallback;
@@ -34,7 +36,8 @@ usage: oracle play [--reference] SCRIPT   plays a script ('-' reads standard inp
        oracle numbers                     writes the recorded answers of the number operations
        oracle oscillator                  writes those of the oscillator and the phase steps
        oracle runs                        writes those of the timing loop
-       oracle record FOLDER               writes all recorded answers, FOLDER/NAME/stdin each";
+       oracle record FOLDER               writes all recorded answers, FOLDER/NAME/stdin each
+       oracle speed                       times the ported timing loop (feature 'ported')";
 
 /// Makes the text of one file of recorded answers.
 type Make = fn() -> String;
@@ -61,6 +64,8 @@ fn main() -> ExitCode {
         ["oscillator"] => write_out(&oscillator::recorded()),
         ["runs"] => write_out(&runs::recorded()),
         ["record", folder] => record(Path::new(folder)),
+        #[cfg(feature = "ported")]
+        ["speed"] => tell(&speed::speed()),
         _ => Err(USAGE.to_string()),
     };
     match done {
@@ -101,7 +106,11 @@ fn compare_as_asked(options: &[&str]) -> Result<ExitCode, String> {
             _ => return Err(USAGE.to_string()),
         }
     }
-    let report = compare::compare(seed, symbols);
+    tell(&compare::compare(seed, symbols))
+}
+
+/// Writes a report; the status says whether it is clean.
+fn tell(report: &compare::Report) -> Result<ExitCode, String> {
     write_out(&report.text)?;
     Ok(if report.clean {
         ExitCode::SUCCESS

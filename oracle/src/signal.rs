@@ -52,12 +52,34 @@ impl Signal {
         }
     }
 
+    /// A signal with a little noise, on no carrier and without odd values.
+    #[cfg(feature = "ported")]
+    pub fn ordinary(points: usize, period: f64) -> Self {
+        Self {
+            points,
+            period,
+            gone: 0.0,
+            from: (1.0, 0.0),
+            to: (1.0, 0.0),
+            turn: 0.0,
+            turn_step: 0.0,
+            size: 1.0,
+            noise: 0.1,
+            odd: 0.0,
+        }
+    }
+
+    /// The next sample.
+    pub fn sample<T: Parts>(&mut self, random: &mut Random) -> T {
+        let (re, im) = self.next(random);
+        T::of_pair(re, im)
+    }
+
     /// A whole block of samples.
     pub fn block<T: Parts>(&mut self, random: &mut Random, length: usize) -> Vec<T> {
         let mut block = Vec::with_capacity(length);
         while block.len() < length.min(FRESH) {
-            let (re, im) = self.next(random);
-            block.push(T::of_pair(re, im));
+            block.push(self.sample(random));
         }
         while block.len() < length {
             let piece = (length - block.len()).min(1 + random.up_to(FRESH - 1));

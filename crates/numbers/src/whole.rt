@@ -8,33 +8,34 @@ ghost use Rattle.numbers.specs.Whole.{floored, far, Beside};
 
 // The greatest whole number not above x. A NaN and an infinity come back as they are, and a zero
 // with its sign. From 2^52 up an f64 has no fraction; below that, 2^52 added and taken off again
-// leaves a whole number less than 1 away from x.
+// leaves a whole number less than 1 away from x. Each sign has a path of its own, which costs less
+// than a choice between two sums.
 pub fn floor(x: f64) -> f64
     ensures { λ r. ⌜ r ≡ floored x ⌝ }
 {
     if x > -4503599627370496.0 {
         if x < 4503599627370496.0 {
-            let m = nearby(x);
-            if m == x {
-                return x;
+            if x < 0.0 {
+                return mended((x - 4503599627370496.0) + 4503599627370496.0, x);
             }
-            return m - above(m, x);
+            return mended((x + 4503599627370496.0) - 4503599627370496.0, x);
         }
     }
     x
 }
 
-// One of the two whole numbers next to x, or x itself if it is whole, for |x| < 2^52.
-fn nearby(x: f64) -> f64
+// The floor of x, for |x| < 2^52, from one of the two whole numbers next to x, or x itself if it is
+// whole.
+fn mended(m: f64, x: f64) -> f64
     requires { ⌜ T (lt (neg far) x) ⌝ }
     requires { ⌜ T (lt x far) ⌝ }
-    ensures { λ r. ⌜ Beside x r ⌝ }
+    requires { ⌜ Beside x m ⌝ }
+    ensures { λ r. ⌜ r ≡ floored x ⌝ }
 {
-    if x < 0.0 {
-        (x - 4503599627370496.0) + 4503599627370496.0
-    } else {
-        (x + 4503599627370496.0) - 4503599627370496.0
+    if m == x {
+        return x;
     }
+    m - above(m, x)
 }
 
 // 1 where m lies above x, else 0. Whether it does is as good as random, so that no branch turns on

@@ -6,6 +6,7 @@ ghost use mathlib.Core.Path.{_≡_};
 ghost use mathlib.Core.Bool.{_&&_, not, cond};
 ghost use Prim.Native.Nat.{_-_, _≤_, min};
 ghost use lib.Dec.{T, leb};
+ghost use lib.Ieee.{binary64, inUnsigned, toUnsigned};
 ghost use Rattle.timing.specs.Clock.{midway, midIndex, midPart, moved, advanced, lacking, midLeft, Back, On};
 
 // The strobe position of a fresh state, counted from the first sample of the history: 4 is the input
@@ -18,6 +19,15 @@ pub struct Place {
     pub mu: f64,
 }
 
+// A whole number as a count, as `f as usize` is. An i64 on the way, which a whole number that the
+// cast takes fits: one instruction makes it of an f64, and it takes five to make a u64.
+fn count(f: f64) -> usize
+    requires { ⌜ T (inUnsigned binary64 64 f) ⌝ }
+    ensures { λ r. ⌜ r ≡ toUnsigned 64 f ⌝ }
+{
+    (f as i64) as usize
+}
+
 // The position t - omega/2 of the middle sample.
 pub(crate) fn mid_position(c: Clock) -> Place
     requires { ⌜ Back (c .i) (midway c) ⌝ }
@@ -26,7 +36,7 @@ pub(crate) fn mid_position(c: Clock) -> Place
     let v = c.mu - c.omega * 0.5;
     let f = numbers::floor(v);
     // f is 0 or below, and 0.0 - f is no negative zero.
-    let back = (0.0 - f) as usize;
+    let back = count(0.0 - f);
     let i = c.i - back;
     let mu = v - f;
     Place { i: i, mu: mu }
@@ -42,7 +52,7 @@ pub(crate) fn advance(p: Params, c: Clock, e: f64) -> Clock
     let q = omega * 0.25;
     let v = (c.mu + omega) + numbers::limit_f64(p.kp * e, q);
     let f = numbers::floor(v);
-    let i = c.i + f as usize;
+    let i = c.i + count(f);
     Clock {
         i: i,
         mu: v - f,

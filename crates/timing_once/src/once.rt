@@ -4,6 +4,7 @@ use symbol_sync::real;
 use timing::Ted;
 use values::Answer;
 ghost use mathlib.Core.Path.{_≡_};
+ghost use Rattle.values.specs.Answer.{produced};
 ghost use Rattle.timing.specs.Sample.{real as realOps, complex as complexOps};
 ghost use Rattle.timing.specs.Setup.{tuned};
 ghost use Rattle.timing.specs.Run.{openedBy, calledReal, calledComplex};
@@ -20,6 +21,16 @@ fn detector(code: u32) -> Ted
     }
 }
 
+// The strobes that an answer counts: none where the run was refused.
+fn strobes(answer: Answer) -> usize
+    ensures { λ r. ⌜ r ≡ produced answer ⌝ }
+{
+    match answer {
+        Answer::Done(p) => p.produced,
+        Answer::Refused(_) => 0,
+    }
+}
+
 // The strobes of a complex recording; answers how many there are.
 #[no_mangle]
 pub extern "C" fn recover_complex(
@@ -32,10 +43,10 @@ pub extern "C" fn recover_complex(
     input: &[f32],
     output: &mut [f32],
 ) -> usize
-    ensures produced { λ r. ⌜ r ≡ producedBy calledComplex (openedBy complexOps (tuned sps (detectorOf ted) «loop_bw» damping «max_deviation» «ted_gain»)) (now (input .entry)) (now (output .entry)) ⌝ }
+    ensures count { λ r. ⌜ r ≡ producedBy calledComplex (openedBy complexOps (tuned sps (detectorOf ted) «loop_bw» damping «max_deviation» «ted_gain»)) (now (input .entry)) (now (output .entry)) ⌝ }
     ensures output { λ _. ⌜ now (output .exit) ≡ outputBy calledComplex (openedBy complexOps (tuned sps (detectorOf ted) «loop_bw» damping «max_deviation» «ted_gain»)) (now (input .entry)) (now (output .entry)) ⌝ }
 {
-    let s = complex::set_up(
+    let ready = complex::set_up(
         sps,
         detector(ted),
         loop_bw,
@@ -43,16 +54,13 @@ pub extern "C" fn recover_complex(
         max_deviation,
         ted_gain,
     );
-    match s {
+    match ready {
         complex::SetUp::Ready(s) => {
             let ran = complex::run(s, input, output);
             let answer = ran.answer;
-            match answer {
-                Answer::Done(p) => p.produced,
-                Answer::Refused(n) => 0,
-            }
+            strobes(answer)
         }
-        complex::SetUp::Refused(n) => 0,
+        complex::SetUp::Refused(_) => 0,
     }
 }
 
@@ -68,10 +76,10 @@ pub extern "C" fn recover_real(
     input: &[f32],
     output: &mut [f32],
 ) -> usize
-    ensures produced { λ r. ⌜ r ≡ producedBy calledReal (openedBy realOps (tuned sps (detectorOf ted) «loop_bw» damping «max_deviation» «ted_gain»)) (now (input .entry)) (now (output .entry)) ⌝ }
+    ensures count { λ r. ⌜ r ≡ producedBy calledReal (openedBy realOps (tuned sps (detectorOf ted) «loop_bw» damping «max_deviation» «ted_gain»)) (now (input .entry)) (now (output .entry)) ⌝ }
     ensures output { λ _. ⌜ now (output .exit) ≡ outputBy calledReal (openedBy realOps (tuned sps (detectorOf ted) «loop_bw» damping «max_deviation» «ted_gain»)) (now (input .entry)) (now (output .entry)) ⌝ }
 {
-    let s = real::set_up(
+    let ready = real::set_up(
         sps,
         detector(ted),
         loop_bw,
@@ -79,12 +87,11 @@ pub extern "C" fn recover_real(
         max_deviation,
         ted_gain,
     );
-    match s {
+    match ready {
         real::SetUp::Ready(s) => {
             let ran = real::run(s, input, output);
-            let p = ran.progress;
-            p.produced
+            ran.progress.produced
         }
-        real::SetUp::Refused(n) => 0,
+        real::SetUp::Refused(_) => 0,
     }
 }

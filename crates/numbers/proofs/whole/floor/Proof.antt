@@ -1,11 +1,10 @@
 -- `numbers::whole::floor` meets its contract: from 2^52 up x is its own floor, and below that its floor is found from the whole number beside x. Assumes nothing.
 use lib.Dec.{T}
-use borrow.Author.Needs.{needs}
 use lib.Ieee.{Float, binary64, ofBits, neg, lt, fits}
 use Rattle.numbers.specs.Whole.{far}
 use Rattle.ieee.proofs.Test.{yes, no}
 use Rattle.numbers.proofs.Laws.Whole.{far-above, far-below}
-use Rattle.numbers.proofs.Laws.Nearby.{floor-same, floor-off}
+use Rattle.numbers.proofs.Laws.Nearby.{nearby-below, nearby-above}
 use Rattle.numbers.proofs.whole.floor.Statement.{statement}
 use Rattle.numbers.proofs.whole.floor.Tie as tie
 
@@ -28,19 +27,19 @@ below-in : (c : tie.Then2) → T (lt (x-of c) far)
 unfolding ofBits
 below-in c = yes (c .if2 .taken)
 
-nearby-requires : tie.Need-nearby-requires
-nearby-requires c κs = (above-in c, below-in c)
+mended-requires : tie.Need-mended-requires
+unfolding ofBits
+mended-requires c κs = let i = c .before in (above-in i, (below-in i, nearby-below (x-of i) (held-in i) (above-in i) (below-in i) (yes (c .if3 .taken))))
+
+mended-requires-2 : tie.Need-mended-requires-2
+unfolding ofBits
+mended-requires-2 c κs = let i = c .before in (above-in i, (below-in i, nearby-above (x-of i) (held-in i) (above-in i) (below-in i) (no (c .if3 .left))))
 
 returns : tie.Need-returns
-returns c = let i = c .before .before in floor-same (x-of i) (held-in i) (above-in i) (below-in i) _ (c .before .nearby .ensures) (yes (c .if3 .taken))
-
-above-requires : tie.Need-above-requires
-above-requires c κs = search needs
+returns c = c .mended .ensures
 
 returns-2 : tie.Need-returns-2
-returns-2 c =
-    let i = c .before .before .before in
-    floor-off (x-of i) (held-in i) (above-in i) (below-in i) _ _ (c .before .before .nearby .ensures) (no (c .before .if3 .left)) (c .above .ensures)
+returns-2 c = c .mended2 .ensures
 
 returns-3 : tie.Need-returns-3
 unfolding ofBits
@@ -51,4 +50,4 @@ unfolding ofBits neg
 returns-4 c = far-below (c .before .args .x) (held (c .before)) (no (c .if1 .left))
 
 pub floor-spec : {M : Type 1} → statement M
-floor-spec = tie.close (tie.spec nearby-requires returns above-requires returns-2 returns-3 returns-4)
+floor-spec = tie.close (tie.spec mended-requires returns mended-requires-2 returns-2 returns-3 returns-4)

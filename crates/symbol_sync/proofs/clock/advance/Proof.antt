@@ -1,5 +1,6 @@
 -- `symbol_sync::clock::advance` meets its contract: its numbers are the definition's, and v lies above 0, so that its floor is the whole number to go on by. Assumes nothing.
-use mathlib.Core.Path.{_≡_, ap, _∙_}
+use mathlib.Core.Path.{_≡_, sym, ap, _∙_, subst}
+use Prim.Native.Nat.{ℕ, _+_, _<_, _^_}
 use lib.Ieee.{Float, binary64, ofBits, add, sub, mul}
 use Rattle.numbers.specs.Range.{limited}
 use Rattle.numbers.specs.Whole.{floored}
@@ -47,15 +48,16 @@ limit-f64-requires-2 c κs = search needs
 floor-requires : tie.Need-floor-requires
 floor-requires c κs = search needs
 
-float-to-int-i : tie.Need-float-to-int-i
-float-to-int-i c =
-    let s = c .before .before .before .before .before .before .before .before .before .before in
-    on-asks (s .args .c .i) (moved (s .args .p) (s .args .c) (s .args .e)) (c .before .floor .result) (s .pre) (floor-is (c .before))
+count-requires : tie.Need-count-requires
+count-requires c κs =
+    let s = c .before .before .before .before .before .before .before .before .before in
+    on-asks (s .args .c .i) (moved (s .args .p) (s .args .c) (s .args .e)) (c .floor .result) (s .pre) (floor-is c)
 
 add-i : tie.Need-add-i
 add-i c =
     let s = c .before .before .before .before .before .before .before .before .before .before .before in
-    record { fits = on-room (s .args .c .i) (moved (s .args .p) (s .args .c) (s .args .e)) (c .before .before .floor .result) (s .pre) (floor-is (c .before .before)) }
+    let room = on-room (s .args .c .i) (moved (s .args .p) (s .args .c) (s .args .e)) (c .before .before .floor .result) (s .pre) (floor-is (c .before .before)) in
+    record { fits = subst (λ (n : ℕ). s .args .c .i + n < 2 ^ 64) (sym (c .before .count .ensures)) room }
 
 returns : tie.Need-returns
 unfolding advanced
@@ -63,7 +65,7 @@ returns c =
     let s = c .before .before .before .before .before .before .before .before .before .before .before in
     let a = s .args in
     let f = c .before .before in
-    let i = on-place (a .c .i) (moved (a .p) (a .c) (a .e)) (f .floor .result) (s .pre) (floor-is f) in
+    let i = ap (λ (n : ℕ). a .c .i + n) (c .before .count .ensures) ∙ on-place (a .c .i) (moved (a .p) (a .c) (a .e)) (f .floor .result) (s .pre) (floor-is f) in
     let m : sub binary64 (v-of (f .before)) (f .floor .result) ≡ sub binary64 (moved (a .p) (a .c) (a .e)) (floored (moved (a .p) (a .c) (a .e))) =
     λ j. sub binary64 (v-is (f .before) j) (floor-is f j) in
     λ j. record { i = i j; mu = m j; omega = omega-is (back-to-limit (f .before)) j; integ = integ-is (back-to-limit (f .before)) j }
@@ -76,6 +78,6 @@ advance-spec =
     limit-f64-requires
     limit-f64-requires-2
     floor-requires
-    float-to-int-i
+    count-requires
     add-i
     returns)
