@@ -50,32 +50,43 @@ pub fn count(tally: &mut [u64; 16], letter: u8, line: &[u8], agrees: bool) {
     }
 }
 
-// Counts a line that is not an operation as one that differs.
-pub fn malformed(tally: &mut [u64; 16], line: &[u8]) {
-    count(tally, 0, line, false);
-}
-
 // Counts input that goes on after the last line as one answer that differs.
 pub fn too_long(tally: &mut [u64; 16]) {
     replay::malformed(b"the input is too long");
     add(tally, DIFFER);
 }
 
+fn show_at(tally: &[u64; 16], place: usize, name: &[u8])
+    requires { ⌜ place < 16 ⌝ }
+{
+    replay::count(name, tally[place]);
+}
+
+fn show_calls(tally: &[u64; 16]) {
+    show_at(tally, 1, b"set_up");
+    show_at(tally, 2, b"reset");
+    show_at(tally, 4, b"run");
+    show_at(tally, 5, b"output");
+}
+
+fn show_state(tally: &[u64; 16]) {
+    show_at(tally, 6, b"clock");
+    show_at(tally, 7, b"history");
+    show_at(tally, 8, b"previous");
+    show_at(tally, 9, b"integrator");
+}
+
+fn show_parameters(tally: &[u64; 16]) {
+    let readings = std::num::wrapping_add_u64(tally[10], tally[11]);
+    replay::count(b"parameters", readings);
+    show_at(tally, 12, b"gains");
+}
+
 // Writes the counts.
 pub fn show(tally: &[u64; 16]) {
-    replay::count(b"set_up", tally[1]);
-    replay::count(b"reset", tally[2]);
-    replay::count(b"run", tally[4]);
-    replay::count(b"output", tally[5]);
-    replay::count(b"clock", tally[6]);
-    replay::count(b"history", tally[7]);
-    replay::count(b"previous", tally[8]);
-    replay::count(b"integrator", tally[9]);
-    replay::count(
-        b"parameters",
-        std::num::wrapping_add_u64(tally[10], tally[11]),
-    );
-    replay::count(b"gains", tally[12]);
-    replay::count(b"malformed", tally[MALFORMED]);
+    show_calls(tally);
+    show_state(tally);
+    show_parameters(tally);
+    show_at(tally, MALFORMED, b"malformed");
     replay::summary(tally[LINES], tally[DIFFER]);
 }

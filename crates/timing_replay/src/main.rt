@@ -20,13 +20,18 @@
 //   h  the history's three samples
 //   y  previous strobe, previous decision, middle
 //   f  integrator, middle held + 2 started, next strobe
+mod buffers;
+mod complex;
 mod counts;
+mod fields;
 mod play;
-mod state;
+mod real;
+mod slot;
+mod words;
 
 use libc::STDIN_FILENO;
-use play::Slot;
 use play::play_line;
+use slot::Slot;
 
 // A proved loop has to end, and nothing says that the input does. So many lines are read at most.
 const LINES: u64 = 67108864;

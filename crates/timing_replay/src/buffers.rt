@@ -1,0 +1,114 @@
+// What the lines leave for the next set-up and the next run, and the output that the last run left.
+//
+// `values` has the three words of the next set-up, and how many f32 were put into the input and how
+// many of the output were compared.
+use crate::words::high;
+use crate::words::low;
+use crate::words::word;
+use crate::words::words_agree;
+use replay::Operation;
+ghost use Prim.Native.Nat.{_<_, _≤_};
+
+const INPUT: usize = 3;
+
+const OUTPUT: usize = 4;
+
+// The bits of the f32 that fills the output before a run: one that no ordinary signal makes.
+const FILLING: u32 = 0xdeadbeef;
+
+// How many f32 of a buffer a run is lent: as many as its line says, and all at most.
+pub(crate) fn lent(count: u64, all: usize) -> usize
+    ensures { λ r. ⌜ r ≤ all ⌝ }
+{
+    let n = count as usize;
+    if n < all { n } else { all }
+}
+
+fn put(input: &mut [f32; 192], k: usize, word: u64)
+    requires { ⌜ k < 191 ⌝ }
+{
+    input[k] = high(word);
+    input[k + 1] = low(word);
+}
+
+fn put_six(input: &mut [f32; 192], k: usize, op: Operation)
+    requires { ⌜ k < 187 ⌝ }
+{
+    put(input, k, op.x);
+    put(input, k + 2, op.y);
+    put(input, k + 4, op.answer);
+}
+
+// Puts the line's six f32 behind the input so far, if there is room.
+fn more_input(input: &mut [f32; 192], values: &mut [u64; 5], op: Operation) -> bool {
+    let at = values[INPUT];
+    if at > 186 {
+        return false;
+    }
+    put_six(input, at as usize, op);
+    values[INPUT] = at + 6;
+    true
+}
+
+fn word_at(output: &[f32; 192], k: usize) -> u64
+    requires { ⌜ k < 191 ⌝ }
+{
+    word(output[k], output[k + 1])
+}
+
+fn six_agree(output: &[f32; 192], k: usize, op: Operation) -> bool
+    requires { ⌜ k < 187 ⌝ }
+{
+    words_agree(
+        word_at(output, k),
+        word_at(output, k + 2),
+        word_at(output, k + 4),
+        op,
+    )
+}
+
+// Whether the next six f32 of the output are those of the line.
+fn more_output(output: &[f32; 192], values: &mut [u64; 5], op: Operation) -> bool {
+    let at = values[OUTPUT];
+    if at > 186 {
+        return false;
+    }
+    values[OUTPUT] = at + 6;
+    six_agree(output, at as usize, op)
+}
+
+fn next_set_up(values: &mut [u64; 5], op: Operation) {
+    values[0] = op.x;
+    values[1] = op.y;
+    values[2] = op.answer;
+}
+
+// Makes ready for a run, and for the input of the one after it.
+fn next_run(values: &mut [u64; 5], output: &mut [f32; 192]) {
+    values[INPUT] = 0;
+    values[OUTPUT] = 0;
+    *output = [replay::f32_of(FILLING); 192];
+}
+
+// Plays a line on the buffers. Answers whether it agrees, or false if the state has to say so.
+pub(crate) fn play(
+    op: Operation,
+    values: &mut [u64; 5],
+    input: &mut [f32; 192],
+    output: &mut [f32; 192],
+) -> bool {
+    let letter = op.letter;
+    match letter {
+        b'v' => {
+            next_set_up(values, op);
+            true
+        }
+        b'i' => more_input(input, values, op),
+        b'o' => more_output(output, values, op),
+        b'r' => {
+            next_run(values, output);
+            false
+        }
+        _ => letter == b'z',
+    }
+}

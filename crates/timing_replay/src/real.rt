@@ -1,0 +1,77 @@
+// Playing a line on a state of real samples.
+use crate::buffers::lent;
+use crate::fields::clock_agrees;
+use crate::fields::params_agree;
+use crate::fields::rest_agrees;
+use crate::words::word;
+use crate::words::words_agree;
+use replay::Operation;
+use symbol_sync::real;
+use symbol_sync::real::SymbolSyncState;
+use values::Progress;
+ghost use Rattle.timing.specs.Run.{Given};
+ghost use Rattle.symbol_sync.specs.Real.{sync};
+
+fn samples_agree(a: f32, b: f32, c: f32, op: Operation) -> bool {
+    words_agree(word(a, 0.0), word(b, 0.0), word(c, 0.0), op)
+}
+
+// Whether the fields that the letter names agree.
+fn fields_agree(s: SymbolSyncState, op: Operation) -> bool {
+    let h = s.hist;
+    let t = s.track;
+    let letter = op.letter;
+    match letter {
+        b's' => clock_agrees(t.clock, op),
+        b'h' => samples_agree(h.a, h.b, h.c, op),
+        b'y' => samples_agree(t.y_prev, t.d_prev, t.mid, op),
+        b'f' => rest_agrees(t.clock, t.mid_ready, t.started, op),
+        _ => params_agree(s.params, op),
+    }
+}
+
+// Whether a run answers what the line says.
+pub(crate) fn progress_agrees(p: Progress, op: Operation) -> bool {
+    p.consumed as u64 == op.y % 4294967296
+        && p.produced as u64 == op.y / 4294967296
+        && op.answer == 0
+}
+
+fn run(
+    s: SymbolSyncState,
+    op: Operation,
+    input: &[f32],
+    output: &mut [f32],
+    agrees: &mut bool,
+) -> SymbolSyncState
+    requires { ⌜ Given (sync s) ⌝ }
+    ensures { λ r. ⌜ Given (sync r) ⌝ }
+{
+    let n = lent(op.x % 4294967296, input.len());
+    let places = lent(op.x / 4294967296, output.len());
+    let ran = real::run(s, &input[..n], &mut output[..places]);
+    let progress = ran.progress;
+    *agrees = progress_agrees(progress, op);
+    ran.state
+}
+
+pub(crate) fn play(
+    s: SymbolSyncState,
+    op: Operation,
+    input: &[f32; 192],
+    output: &mut [f32; 192],
+    agrees: &mut bool,
+) -> SymbolSyncState
+    requires { ⌜ Given (sync s) ⌝ }
+    ensures { λ r. ⌜ Given (sync r) ⌝ }
+{
+    let letter = op.letter;
+    match letter {
+        b'z' => real::reset(s),
+        b'r' => run(s, op, input, output, agrees),
+        _ => {
+            *agrees = fields_agree(s, op);
+            s
+        }
+    }
+}

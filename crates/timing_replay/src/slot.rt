@@ -1,0 +1,146 @@
+// The state that the lines are played on, of either kind, and its set-up.
+use crate::complex as complex_line;
+use crate::real as real_line;
+use replay::Operation;
+use symbol_sync::complex;
+use symbol_sync::real;
+use timing::Ted;
+ghost use Rattle.timing.specs.Run.{OpeningGiven};
+ghost use Rattle.symbol_sync.specs.Real as realSync;
+ghost use Rattle.symbol_sync.specs.Complex as complexSync;
+ghost use Rattle.timing_replay.specs.Slot.{SlotGiven};
+
+// The state, once a set-up was accepted.
+pub enum Slot {
+    Empty,
+    Real(real::SymbolSyncState),
+    Complex(complex::SymbolSyncState),
+}
+
+// The six values of a set-up.
+struct SixValues {
+    sps: f64,
+    ted: Ted,
+    loop_bw: f64,
+    damping: f64,
+    max_deviation: f64,
+    ted_gain: f64,
+}
+
+fn detector(code: u64) -> Ted {
+    if code == 0 {
+        Ted::Gardner
+    } else {
+        Ted::MuellerMuller
+    }
+}
+
+fn asked(values: &[u64; 5], op: Operation) -> SixValues {
+    SixValues {
+        sps: replay::f64_of(values[0]),
+        ted: detector(op.answer % 16 / 2),
+        loop_bw: replay::f64_of(values[1]),
+        damping: replay::f64_of(values[2]),
+        max_deviation: replay::f64_of(op.x),
+        ted_gain: replay::f64_of(op.y),
+    }
+}
+
+// What a set-up of real samples leaves. It agrees if it is refused with the recorded number, or is
+// accepted for 0.
+fn opened_real(answer: real::SetUp, number: u64, agrees: &mut bool) -> Slot
+    requires { ⌜ OpeningGiven (realSync.opening answer) ⌝ }
+    ensures { λ r. ⌜ SlotGiven r ⌝ }
+{
+    match answer {
+        real::SetUp::Ready(s) => {
+            *agrees = number == 0;
+            Slot::Real(s)
+        }
+        real::SetUp::Refused(n) => {
+            *agrees = number == n.number() as u64;
+            Slot::Empty
+        }
+    }
+}
+
+// Complex variant of opened_real.
+fn opened_complex(answer: complex::SetUp, number: u64, agrees: &mut bool) -> Slot
+    requires { ⌜ OpeningGiven (complexSync.opening answer) ⌝ }
+    ensures { λ r. ⌜ SlotGiven r ⌝ }
+{
+    match answer {
+        complex::SetUp::Ready(s) => {
+            *agrees = number == 0;
+            Slot::Complex(s)
+        }
+        complex::SetUp::Refused(n) => {
+            *agrees = number == n.number() as u64;
+            Slot::Empty
+        }
+    }
+}
+
+fn set_up(a: SixValues, code: u64, agrees: &mut bool) -> Slot
+    ensures { λ r. ⌜ SlotGiven r ⌝ }
+{
+    let ted = a.ted;
+    if code % 2 == 0 {
+        let answer = real::set_up(
+            a.sps,
+            ted,
+            a.loop_bw,
+            a.damping,
+            a.max_deviation,
+            a.ted_gain,
+        );
+        return opened_real(answer, code / 16, agrees);
+    }
+    let answer = complex::set_up(
+        a.sps,
+        ted,
+        a.loop_bw,
+        a.damping,
+        a.max_deviation,
+        a.ted_gain,
+    );
+    opened_complex(answer, code / 16, agrees)
+}
+
+fn play_state(
+    slot: Slot,
+    op: Operation,
+    input: &[f32; 192],
+    output: &mut [f32; 192],
+    agrees: &mut bool,
+) -> Slot
+    requires { ⌜ SlotGiven slot ⌝ }
+    ensures { λ r. ⌜ SlotGiven r ⌝ }
+{
+    match slot {
+        Slot::Empty => return slot,
+        Slot::Real(s) => return Slot::Real(real_line::play(s, op, input, output, agrees)),
+        Slot::Complex(s) => return Slot::Complex(complex_line::play(s, op, input, output, agrees)),
+    }
+}
+
+// Plays a line on the state. `agrees` is what the buffers say of it; where the state has to say it,
+// it is false up to here.
+pub(crate) fn play(
+    slot: Slot,
+    op: Operation,
+    values: &[u64; 5],
+    input: &[f32; 192],
+    output: &mut [f32; 192],
+    agrees: &mut bool,
+) -> Slot
+    requires { ⌜ SlotGiven slot ⌝ }
+    ensures { λ r. ⌜ SlotGiven r ⌝ }
+{
+    let letter = op.letter;
+    match letter {
+        b'v' | b'i' | b'o' => slot,
+        b'n' => set_up(asked(values, op), op.answer, agrees),
+        _ => play_state(slot, op, input, output, agrees),
+    }
+}
