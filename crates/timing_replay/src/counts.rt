@@ -39,7 +39,7 @@ fn add(tally: &mut [u64; 16], place: usize)
 }
 
 // Counts a line at its letter's place, and shows the first 20 that differ.
-pub fn count(tally: &mut [u64; 16], letter: u8, line: &[u8], agrees: bool) {
+pub(crate) fn count(tally: &mut [u64; 16], letter: u8, line: &[u8], agrees: bool) {
     add(tally, place(letter));
     add(tally, LINES);
     if !agrees {
@@ -51,7 +51,7 @@ pub fn count(tally: &mut [u64; 16], letter: u8, line: &[u8], agrees: bool) {
 }
 
 // Counts input that goes on after the last line as one answer that differs.
-pub fn too_long(tally: &mut [u64; 16]) {
+pub(crate) fn too_long(tally: &mut [u64; 16]) {
     replay::malformed(b"the input is too long");
     add(tally, DIFFER);
 }
@@ -83,7 +83,7 @@ fn show_parameters(tally: &[u64; 16]) {
 }
 
 // Writes the counts.
-pub fn show(tally: &[u64; 16]) {
+pub(crate) fn show(tally: &[u64; 16]) {
     show_calls(tally);
     show_state(tally);
     show_parameters(tally);
