@@ -7,7 +7,7 @@ use crate::words::low;
 use crate::words::word;
 use crate::words::words_agree;
 use replay::Operation;
-ghost use Prim.Native.Nat.{_<_, _≤_};
+ghost use Prim.Native.Nat.{_<_};
 
 const INPUT: usize = 3;
 
@@ -15,14 +15,6 @@ const OUTPUT: usize = 4;
 
 // The bits of the f32 that fills the output before a run: one that no ordinary signal makes.
 const FILLING: u32 = 0xdeadbeef;
-
-// How many f32 of a buffer a run is lent: as many as its line says, and all at most.
-pub(crate) fn lent(count: u64, all: usize) -> usize
-    ensures { λ r. ⌜ r ≤ all ⌝ }
-{
-    let n = count as usize;
-    if n < all { n } else { all }
-}
 
 fn put(input: &mut [f32; 192], k: usize, word: u64)
     requires { ⌜ k < 191 ⌝ }
@@ -37,17 +29,6 @@ fn put_six(input: &mut [f32; 192], k: usize, op: Operation)
     put(input, k, op.x);
     put(input, k + 2, op.y);
     put(input, k + 4, op.answer);
-}
-
-// Puts the line's six f32 behind the input so far, if there is room.
-fn more_input(input: &mut [f32; 192], values: &mut [u64; 5], op: Operation) -> bool {
-    let at = values[INPUT];
-    if at > 186 {
-        return false;
-    }
-    put_six(input, at as usize, op);
-    values[INPUT] = at + 6;
-    true
 }
 
 fn word_at(output: &[f32; 192], k: usize) -> u64
@@ -67,14 +48,17 @@ fn six_agree(output: &[f32; 192], k: usize, op: Operation) -> bool
     )
 }
 
-// Whether the next six f32 of the output are those of the line.
-fn more_output(output: &[f32; 192], values: &mut [u64; 5], op: Operation) -> bool {
-    let at = values[OUTPUT];
+// Where the line's six f32 stand in a buffer. What has no room comes to stand at its end.
+fn next_six(values: &mut [u64; 5], count: usize) -> usize
+    requires { ⌜ count < 5 ⌝ }
+    ensures { λ r. ⌜ r < 187 ⌝ }
+{
+    let at = values[count];
     if at > 186 {
-        return false;
+        return 186;
     }
-    values[OUTPUT] = at + 6;
-    six_agree(output, at as usize, op)
+    values[count] = at + 6;
+    at as usize
 }
 
 fn next_set_up(values: &mut [u64; 5], op: Operation) {
@@ -103,12 +87,16 @@ pub(crate) fn play(
             next_set_up(values, op);
             true
         }
-        b'i' => more_input(input, values, op),
-        b'o' => more_output(output, values, op),
+        b'i' => {
+            put_six(input, next_six(values, INPUT), op);
+            true
+        }
+        b'o' => six_agree(output, next_six(values, OUTPUT), op),
         b'r' => {
             next_run(values, output);
             false
         }
-        _ => letter == b'z',
+        b'z' => words_agree(0, 0, 0, op),
+        _ => false,
     }
 }

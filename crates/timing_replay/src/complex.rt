@@ -1,5 +1,4 @@
 // Playing a line on a state of complex samples.
-use crate::buffers::lent;
 use crate::fields::clock_agrees;
 use crate::fields::params_agree;
 use crate::fields::rest_agrees;
@@ -36,10 +35,11 @@ fn fields_agree(s: SymbolSyncState, op: Operation) -> bool {
 fn answer_agrees(answer: Answer, op: Operation) -> bool {
     match answer {
         Answer::Done(p) => progress_agrees(p, op),
-        Answer::Refused(r) => op.answer == r.number() as u64 && op.y == 0,
+        Answer::Refused(r) => words_agree(op.x, 0, r.number() as u64, op),
     }
 }
 
+// Runs on as much of the buffers as the line says, and not at all if they have less.
 fn run(
     s: SymbolSyncState,
     op: Operation,
@@ -50,14 +50,21 @@ fn run(
     requires { ⌜ Given (sync s) ⌝ }
     ensures { λ r. ⌜ Given (sync r) ⌝ }
 {
-    let n = lent(op.x % 4294967296, input.len());
-    let places = lent(op.x / 4294967296, output.len());
+    let n = (op.x % 4294967296) as usize;
+    let places = (op.x / 4294967296) as usize;
+    if n > input.len() {
+        return s;
+    }
+    if places > output.len() {
+        return s;
+    }
     let ran = complex::run(s, &input[..n], &mut output[..places]);
     let answer = ran.answer;
     *agrees = answer_agrees(answer, op);
     ran.state
 }
 
+// Resets, runs, or compares fields, unless the line agrees already.
 pub(crate) fn play(
     s: SymbolSyncState,
     op: Operation,
@@ -69,12 +76,12 @@ pub(crate) fn play(
     ensures { λ r. ⌜ Given (sync r) ⌝ }
 {
     let letter = op.letter;
-    match letter {
-        b'z' => complex::reset(s),
-        b'r' => run(s, op, input, output, agrees),
-        _ => {
-            *agrees = fields_agree(s, op);
-            s
-        }
+    if letter == b'z' {
+        return complex::reset(s);
     }
+    if letter == b'r' {
+        return run(s, op, input, output, agrees);
+    }
+    *agrees = *agrees || fields_agree(s, op);
+    s
 }

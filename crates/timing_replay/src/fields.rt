@@ -52,7 +52,7 @@ fn flags(mid_ready: bool, started: bool) -> u64 {
 
 // Of the integrator the number is compared, since the source leaves the sign of its zero open.
 pub(crate) fn rest_agrees(c: Clock, mid_ready: bool, started: bool, op: Operation) -> bool {
-    replay::alike_f64(c.integ, replay::f64_of(op.x))
-        && flags(mid_ready, started) == op.y
-        && replay::f64_bits(c.next_strobe()) == op.answer
+    let flags = flags(mid_ready, started);
+    let next = replay::f64_bits(c.next_strobe());
+    replay::alike_f64(c.integ, replay::f64_of(op.x)) && words_agree(op.x, flags, next, op)
 }

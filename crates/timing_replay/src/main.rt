@@ -37,14 +37,14 @@ use slot::Slot;
 const LINES: u64 = 67108864;
 
 fn main() {
-    let mut tally = [0; 16];
+    let mut tally = [0; 14];
     play_lines(&mut tally);
     counts::show(&tally);
 }
 
 // Plays line after line, up to the end of the input. What is left there after the last whole line
 // counts as a line too.
-fn play_lines(tally: &mut [u64; 16]) {
+fn play_lines(tally: &mut [u64; 14]) {
     let mut values = [0u64; 5];
     let mut input = [0.0f32; 192];
     let mut output = [0.0f32; 192];

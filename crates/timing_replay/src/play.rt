@@ -27,7 +27,7 @@ pub fn play_line(
     values: &mut [u64; 5],
     input: &mut [f32; 192],
     output: &mut [f32; 192],
-    tally: &mut [u64; 16],
+    tally: &mut [u64; 14],
 ) -> Slot
     requires { ⌜ SlotGiven slot ⌝ }
     ensures { λ r. ⌜ SlotGiven r ⌝ }

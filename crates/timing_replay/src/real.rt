@@ -1,5 +1,4 @@
 // Playing a line on a state of real samples.
-use crate::buffers::lent;
 use crate::fields::clock_agrees;
 use crate::fields::params_agree;
 use crate::fields::rest_agrees;
@@ -37,6 +36,7 @@ pub(crate) fn progress_agrees(p: Progress, op: Operation) -> bool {
         && op.answer == 0
 }
 
+// Runs on as much of the buffers as the line says, and not at all if they have less.
 fn run(
     s: SymbolSyncState,
     op: Operation,
@@ -47,14 +47,21 @@ fn run(
     requires { ⌜ Given (sync s) ⌝ }
     ensures { λ r. ⌜ Given (sync r) ⌝ }
 {
-    let n = lent(op.x % 4294967296, input.len());
-    let places = lent(op.x / 4294967296, output.len());
+    let n = (op.x % 4294967296) as usize;
+    let places = (op.x / 4294967296) as usize;
+    if n > input.len() {
+        return s;
+    }
+    if places > output.len() {
+        return s;
+    }
     let ran = real::run(s, &input[..n], &mut output[..places]);
     let progress = ran.progress;
     *agrees = progress_agrees(progress, op);
     ran.state
 }
 
+// Resets, runs, or compares fields, unless the line agrees already.
 pub(crate) fn play(
     s: SymbolSyncState,
     op: Operation,
@@ -66,12 +73,12 @@ pub(crate) fn play(
     ensures { λ r. ⌜ Given (sync r) ⌝ }
 {
     let letter = op.letter;
-    match letter {
-        b'z' => real::reset(s),
-        b'r' => run(s, op, input, output, agrees),
-        _ => {
-            *agrees = fields_agree(s, op);
-            s
-        }
+    if letter == b'z' {
+        return real::reset(s);
     }
+    if letter == b'r' {
+        return run(s, op, input, output, agrees);
+    }
+    *agrees = *agrees || fields_agree(s, op);
+    s
 }

@@ -35,6 +35,7 @@ fn detector(code: u64) -> Ted {
     }
 }
 
+// What the `v` line before and this one ask for.
 fn asked(values: &[u64; 5], op: Operation) -> SixValues {
     SixValues {
         sps: replay::f64_of(values[0]),
@@ -46,8 +47,8 @@ fn asked(values: &[u64; 5], op: Operation) -> SixValues {
     }
 }
 
-// What a set-up of real samples leaves. It agrees if it is refused with the recorded number, or is
-// accepted for 0.
+// What a set-up of real samples leaves. It agrees if it is refused with the recorded number, or
+// accepted where that is 0.
 fn opened_real(answer: real::SetUp, number: u64, agrees: &mut bool) -> Slot
     requires { ⌜ OpeningGiven (realSync.opening answer) ⌝ }
     ensures { λ r. ⌜ SlotGiven r ⌝ }
@@ -81,11 +82,14 @@ fn opened_complex(answer: complex::SetUp, number: u64, agrees: &mut bool) -> Slo
     }
 }
 
-fn set_up(a: SixValues, code: u64, agrees: &mut bool) -> Slot
+// Sets up anew. A refused set-up leaves no state.
+fn set_up(values: &[u64; 5], op: Operation, agrees: &mut bool) -> Slot
     ensures { λ r. ⌜ SlotGiven r ⌝ }
 {
+    let a = asked(values, op);
     let ted = a.ted;
-    if code % 2 == 0 {
+    let number = op.answer / 16;
+    if op.answer % 2 == 0 {
         let answer = real::set_up(
             a.sps,
             ted,
@@ -94,7 +98,7 @@ fn set_up(a: SixValues, code: u64, agrees: &mut bool) -> Slot
             a.max_deviation,
             a.ted_gain,
         );
-        return opened_real(answer, code / 16, agrees);
+        return opened_real(answer, number, agrees);
     }
     let answer = complex::set_up(
         a.sps,
@@ -104,28 +108,10 @@ fn set_up(a: SixValues, code: u64, agrees: &mut bool) -> Slot
         a.max_deviation,
         a.ted_gain,
     );
-    opened_complex(answer, code / 16, agrees)
+    opened_complex(answer, number, agrees)
 }
 
-fn play_state(
-    slot: Slot,
-    op: Operation,
-    input: &[f32; 192],
-    output: &mut [f32; 192],
-    agrees: &mut bool,
-) -> Slot
-    requires { ⌜ SlotGiven slot ⌝ }
-    ensures { λ r. ⌜ SlotGiven r ⌝ }
-{
-    match slot {
-        Slot::Empty => return slot,
-        Slot::Real(s) => return Slot::Real(real_line::play(s, op, input, output, agrees)),
-        Slot::Complex(s) => return Slot::Complex(complex_line::play(s, op, input, output, agrees)),
-    }
-}
-
-// Plays a line on the state. `agrees` is what the buffers say of it; where the state has to say it,
-// it is false up to here.
+// Plays a line on the state. `agrees` is what the buffers say of it.
 pub(crate) fn play(
     slot: Slot,
     op: Operation,
@@ -137,10 +123,12 @@ pub(crate) fn play(
     requires { ⌜ SlotGiven slot ⌝ }
     ensures { λ r. ⌜ SlotGiven r ⌝ }
 {
-    let letter = op.letter;
-    match letter {
-        b'v' | b'i' | b'o' => slot,
-        b'n' => set_up(asked(values, op), op.answer, agrees),
-        _ => play_state(slot, op, input, output, agrees),
+    if op.letter == b'n' {
+        return set_up(values, op, agrees);
+    }
+    match slot {
+        Slot::Empty => slot,
+        Slot::Real(s) => Slot::Real(real_line::play(s, op, input, output, agrees)),
+        Slot::Complex(s) => Slot::Complex(complex_line::play(s, op, input, output, agrees)),
     }
 }

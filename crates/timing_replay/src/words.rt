@@ -21,7 +21,13 @@ pub(crate) fn word(a: f32, b: f32) -> u64 {
 
 // Whether a line has these three words.
 pub(crate) fn words_agree(x: u64, y: u64, z: u64, op: Operation) -> bool {
-    x == op.x && y == op.y && z == op.answer
+    if x != op.x {
+        return false;
+    }
+    if y != op.y {
+        return false;
+    }
+    z == op.answer
 }
 
 pub(crate) fn floats_agree(x: f64, y: f64, z: f64, op: Operation) -> bool {

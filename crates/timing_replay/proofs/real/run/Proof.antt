@@ -1,24 +1,24 @@
--- `timing_replay::real::run` meets its contract: the part of a buffer has as many f32 as is lent. Assumes nothing.
+-- `timing_replay::real::run` meets its contract: a part of a buffer that is long enough has as many f32 as the line says. Assumes nothing.
 use mathlib.Core.Path.{sym}
 use lib.Seq.{length-take-le}
 use borrow.Author.Needs.{needs}
 use Rattle.timing_replay.proofs.real.run.Statement.{statement}
 use Rattle.timing_replay.proofs.real.run.Tie as tie
 
-lent-requires : tie.Need-lent-requires
-lent-requires c κs = search needs
+returns : tie.Need-returns
+returns c = search needs
 
-lent-requires-2 : tie.Need-lent-requires-2
-lent-requires-2 c κs = search needs
+returns-2 : tie.Need-returns-2
+returns-2 c = search needs
 
 slice-aggregate-run : tie.Need-slice-aggregate-run
-slice-aggregate-run c = sym (length-take-le _ _ (c .before .before .before .lent .ensures))
+slice-aggregate-run c = sym (length-take-le _ _ (c .before .before .if1 .left))
 
 slice-relend-prefix-run : tie.Need-slice-relend-prefix-run
 slice-relend-prefix-run c = search needs
 
 slice-aggregate-run-2 : tie.Need-slice-aggregate-run-2
-slice-aggregate-run-2 c = sym (length-take-le _ _ (c .before .before .lent2 .ensures))
+slice-aggregate-run-2 c = sym (length-take-le _ _ (c .before .before .if2 .left))
 
 run-requires : tie.Need-run-requires
 run-requires c κs = search needs
@@ -29,19 +29,19 @@ progress-agrees-requires c κs = search needs
 same-length : tie.Need-same-length
 same-length c = search needs
 
-returns : tie.Need-returns
-returns c = search needs
+returns-3 : tie.Need-returns-3
+returns-3 c = search needs
 
 pub run-spec : {M : Type 1} → statement M
 run-spec =
     tie.close
     (tie.spec
-    lent-requires
-    lent-requires-2
+    returns
+    returns-2
     slice-aggregate-run
     slice-relend-prefix-run
     slice-aggregate-run-2
     run-requires
     progress-agrees-requires
     same-length
-    returns)
+    returns-3)
