@@ -5,7 +5,7 @@ use mathlib.Core.Logic.{_⊎_, inl, inr}
 use Prim.Native.Nat.{ℕ, zero, suc, _+_, _-_, _*_, _^_, _≤_, _<_}
 use native.Mathlib.Nat.{sub-zero, zero-mul, eq-of-mul-eq-mul-right, zero-lt-suc, add-mul, mul-one, one-mul, mul-zero, mul-suc, add-zero, zero-add, mul-assoc, mul-right-comm, mul-pos, pow-suc, pow-succ', mul-lt-mul-of-pos-right, lt-of-mul-lt-mul-right, lt-of-lt-of-le, le-trans, le-of-eq}
 use native.Mathlib.Omega.{arith}
-use mathlib.Core.Bool.{Bool, true, false}
+use mathlib.Core.Bool.{Bool, true, false, Bool·not-not}
 use lib.IntN.{ℤ, pos, negsuc}
 use lib.Dec.{T, ltb, ltb→lt, not-T}
 use lib.Pow.{pow-add, pow-pos, pow-mono, shl-lt}
@@ -16,7 +16,7 @@ use lib.Ieee.Exact.{HasValue, round-exact}
 use lib.Ieee.Bits.{is-false}
 use lib.Ieee.Scale.{finite, round-same}
 use lib.Ieee.Positive.{den, den-pos}
-use Rattle.ieee.specs.Constants.{zero₀, half₀, two₀}
+use Rattle.ieee.specs.Constants.{zero₀, half₀, one₀, two₀}
 use Rattle.ieee.specs.Alike.{Alike}
 use Rattle.ieee.specs.Fraction.{plus, less}
 use Rattle.ieee.proofs.Round.{round-zero}
@@ -134,6 +134,13 @@ pub minus-zero : (f : Format) (x : Float) → T (fits f x) → sub f x zero₀ �
 minus-zero f nan t = unfold sub in refl
 minus-zero f (inf s) t = unfold sub in refl
 minus-zero f (fin s m e) t = unfold sub in rw (add-fin f s true m 0 e (pos 0), zero-mul (down e), mul-one (m * up e), mul-one (down e)) (none-off f s (m * up e) (down e) ∙ round-own f s m e t)
+
+-- 1 × x is x
+pub one-times : (f : Format) (x : Float) → T (fits f x) → mul f one₀ x ≡ x
+one-times f nan t = unfold mul in refl
+one-times f (inf true) t = unfold mul in refl
+one-times f (inf false) t = unfold mul in refl
+one-times f (fin s m e) t = rw (mul-fin f false s 1 m (pos 0) e, Bool·not-not s, one-mul (m * up e), one-mul (down e)) (round-own f s m e t)
 
 -- 0 - x, for a whole number x = -n, is n, with no minus sign at 0
 pub zero-minus : (f : Format) (x : Float) (n : ℕ) → Val x 0 n 1 → sub f zero₀ x ≡ round f false n 1

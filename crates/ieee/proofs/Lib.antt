@@ -14,6 +14,9 @@ pub mod Cancel
 pub mod Held
 pub mod Exact
 pub mod Mono
+pub mod Span
 pub mod Apart
 pub mod Error
 pub mod Even
+pub mod NotFinite
+pub mod Scaled

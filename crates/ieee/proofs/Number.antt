@@ -9,7 +9,7 @@ use Rattle.ieee.proofs.Round.{round-number}
 use Rattle.ieee.proofs.Order.{number}
 use Rattle.ieee.proofs.Rounds.{Rounds, high, deep, add-rounds, mul-rounds}
 
-not-nan→number : (x : Float) → T (not (isNan x)) → T (number x)
+pub not-nan→number : (x : Float) → T (not (isNan x)) → T (number x)
 unfolding isNan
 not-nan→number nan h = h
 not-nan→number (inf s) h = tt

@@ -7,9 +7,10 @@ use native.Mathlib.Nat.{le-of-eq, le-of-lt, le-antisymm, not-le-of-lt, lt-of-not
 use native.Mathlib.Omega.{arith}
 use mathlib.Core.Bool.{Bool, true, false, not, _&&_, _||_, cond}
 use lib.IntN.{pos}
-use lib.Dec.{T, T-not, ltb, eqb, eqb→eq, ltb→lt, lt→ltb, nltb→le}
+use lib.Dec.{T, T-not, not-T, ltb, eqb, eqb→eq, ltb→lt, lt→ltb, nltb→le}
 use lib.Ieee.{Float, nan, inf, fin, up, down, neg, le, lt, eq}
 use lib.Ieee.Fits.{and-l, and-r, and-i, eq→eqb, down-pos}
+use lib.Ieee.Bits.{is-false}
 use lib.Ieee.Exact.{HasValue}
 use lib.Ieee.Scale.{finite}
 use lib.Ieee.Positive.{den, den-pos}
@@ -340,6 +341,21 @@ minus-le (fin false m e) p h = cross→le (fin true m e) (fin false m e) tt tt (
 -- ---- what an order rules out
 pub not-below : (x y : Float) → T (finite x) → T (finite y) → T (le y x) → T (lt x y) → ⊥
 not-below x y p q h g = let a = le→cross y x q p h in let b = lt→cross x y p q g in lt-irrefl 0 (omega arith)
+
+-- what is not above is not below, whatever the two are
+pub le→not-lt : (x y : Float) → T (le x y) → lt y x ≡ false
+le→not-lt nan y h = absurd (unfold le in h)
+le→not-lt (inf s) nan h = unfold lt in refl
+le→not-lt (fin s m e) nan h = unfold lt in refl
+le→not-lt (inf true) (inf true) h = unfold lt in refl
+le→not-lt (inf true) (inf false) h = unfold lt in refl
+le→not-lt (inf false) (inf true) h = absurd (unfold le in h)
+le→not-lt (inf false) (inf false) h = unfold lt in refl
+le→not-lt (inf true) (fin t n d) h = unfold lt in refl
+le→not-lt (inf false) (fin t n d) h = absurd (unfold le in h)
+le→not-lt (fin s m e) (inf true) h = absurd (unfold le in h)
+le→not-lt (fin s m e) (inf false) h = unfold lt in refl
+le→not-lt (fin s m e) (fin t n d) h = is-false (lt (fin t n d) (fin s m e)) (not-T (lt (fin t n d) (fin s m e)) (not-below (fin t n d) (fin s m e) tt tt h))
 
 pub lt→le : (x y : Float) → T (lt x y) → T (le x y)
 unfolding le

@@ -6,3 +6,4 @@ pub mod Stepped
 pub mod LowBits
 pub mod Wide
 pub mod StepSingle
+pub mod Zeros

@@ -1,6 +1,6 @@
 -- "Interpolation, f32": one part of a sample; and "the sign (1, -1 or 0)" of one. Definitions only.
-use mathlib.Core.Bool.{cond}
-use lib.Ieee.{Float, binary32, ofBits, add, sub, mul, neg, lt}
+use mathlib.Core.Bool.{false, cond}
+use lib.Ieee.{Float, binary32, ofBits, round, add, sub, mul, neg, lt}
 
 infixl 60 _⊕_ _⊖_
 infixl 70 _⊗_
@@ -24,10 +24,10 @@ abbrev pub half : Float
 half = ofBits binary32 0x3f000000
 
 abbrev pub third : Float
-third = ofBits binary32 0x3eaaaaab
+third = round binary32 false 1 3
 
 abbrev pub sixth : Float
-sixth = ofBits binary32 0x3e2aaaab
+sixth = round binary32 false 1 6
 
 -- the value mu after x, in a window w, x, y, z
 unfoldable pub interpolated : Float → Float → Float → Float → Float → Float

@@ -34,10 +34,10 @@ pub record Row : Type 0 where
   pub passed : Bool
   pub reason : Refusal
 
--- "Lowest number first"
-unfoldable pub firstOf : List Row → Tuning → Tuning
-firstOf [] t = t
-firstOf (r ∷ l) t = cond (r .passed) (firstOf l t) (Refused (r .reason))
+-- "Lowest number first": t if every row is passed, else the refusal of the first that is not. Of any answer: the carrier's set-up has another
+unfoldable pub firstOf : {A : Type 0} → (Refusal → A) → List Row → A → A
+firstOf refuse [] t = t
+firstOf refuse (r ∷ l) t = cond (r .passed) (firstOf refuse l t) (refuse (r .reason))
 
 abbrev pub rows : Float → Float → Float → Float → Float → List Row
 rows sps bw damping dev gain =
@@ -50,4 +50,4 @@ rows sps bw damping dev gain =
     ∷ []
 
 unfoldable pub tuned : Float → Ted → Float → Float → Float → Float → Tuning
-tuned sps ted bw damping dev gain = firstOf (rows sps bw damping dev gain) (Accepted (paramsWith sps ted bw damping dev gain (kpOf sps bw damping gain) (kiOf sps bw damping gain)))
+tuned sps ted bw damping dev gain = firstOf Refused (rows sps bw damping dev gain) (Accepted (paramsWith sps ted bw damping dev gain (kpOf sps bw damping gain) (kiOf sps bw damping gain)))

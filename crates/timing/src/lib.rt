@@ -15,3 +15,4 @@ pub use part::interp1;
 pub use part::sign;
 pub use setup::Tuning;
 pub use setup::tune;
+pub use setup::within;

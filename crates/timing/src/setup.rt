@@ -21,7 +21,7 @@ pub enum Tuning {
 }
 
 // Whether x is finite and lies in lo to hi, both ends included.
-fn within(lo: f64, x: f64, hi: f64) -> bool
+pub fn within(lo: f64, x: f64, hi: f64) -> bool
     ensures { λ r. ⌜ r ≡ inRange lo x hi ⌝ }
 {
     if numbers::is_finite_f64(x) {

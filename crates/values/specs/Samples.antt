@@ -1,7 +1,16 @@
 -- "A complex sample is two f32, real part first, in a lent slice of f32." Definitions only.
+use Prim.Native.Nat.{ℕ, _*_, _/_}
+use mathlib.Core.Bool.{cond}
 use mathlib.Core.List.{List, [], _∷_}
+use lib.Dec.{ltb}
+use lib.ListN.{length}
+use lib.Seq.{sets}
 use lib.Ieee.{Float}
+use Rattle.ieee.specs.Constants.{zero₀}
 use Rattle.values.specs.declared.sample.C32.{C32}
+
+abbrev pub silence : C32
+silence = record { re = zero₀; im = zero₀ }
 
 -- the samples of a slice; a last f32 that has no partner is left out
 unfoldable pub samples : List Float → List C32
@@ -13,3 +22,7 @@ samples (x ∷ y ∷ l) = record { re = x; im = y } ∷ samples l
 unfoldable pub parts : List C32 → List Float
 parts [] = []
 parts (z ∷ l) = z .re ∷ z .im ∷ parts l
+
+-- the slice with y as its sample k, if it has one
+abbrev pub stored : List Float → ℕ → C32 → List Float
+stored ys k y = cond (ltb k (length ys / 2)) (sets ys (2 * k) (y .re ∷ y .im ∷ [])) ys

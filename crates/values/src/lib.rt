@@ -7,3 +7,5 @@ pub use error::Refusal;
 pub use progress::Answer;
 pub use progress::Progress;
 pub use sample::C32;
+pub use sample::sample_at;
+pub use sample::store_sample;

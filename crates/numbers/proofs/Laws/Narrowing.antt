@@ -15,6 +15,7 @@ use Rattle.ieee.specs.Constants.{zero₀, one₀}
 use Rattle.ieee.specs.Alike.{plain, signed, Like}
 use Rattle.ieee.specs.Fraction.{plus, less}
 use Rattle.ieee.proofs.Order.{le→cross, between}
+use Rattle.ieee.proofs.Span.{Span, span-finite, low-finite}
 use Rattle.ieee.proofs.Exact.{round-own}
 use Rattle.ieee.proofs.Round.{round-neg, round-zero, round-number}
 use Rattle.ieee.proofs.Rounds.{Rounds, at-high, at-deep, rounds-mono}
@@ -91,3 +92,13 @@ narrow-unit x h k =
       subst (λ (z : Float). T (le z (narrowed x))) (narrow-exact zero₀ tt) (narrow-mono zero₀ x tt p h),
       subst (λ (z : Float). T (le (narrowed x) z)) (narrow-exact one₀ tt) (narrow-mono x one₀ p tt k),
     )
+
+-- what lies in a span lies in the narrowed one
+pub narrow-span : {lo hi x : Float} → Span lo hi x → T (finite (narrowed hi)) → Span (narrowed lo) (narrowed hi) (narrowed x)
+unfolding fits
+narrow-span {lo} {hi} {x} a t = record {
+  top = t;
+  from = subst (λ (z : Float). T (le z (narrowed lo))) (narrow-exact zero₀ tt) (narrow-mono zero₀ lo tt (low-finite a) (a .from));
+  low = narrow-mono lo x (low-finite a) (span-finite a) (a .low);
+  high = narrow-mono x hi (span-finite a) (a .top) (a .high);
+}

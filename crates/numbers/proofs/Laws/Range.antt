@@ -5,9 +5,9 @@ use Prim.Native.Nat.{ℕ, _+_, _*_, _<_}
 use native.Mathlib.Nat.{mul-pos, zero-lt-suc}
 use native.Mathlib.Omega.{arith}
 use mathlib.Core.Bool.{Bool, true, false, not, cond}
-use lib.Dec.{T, not-T}
+use lib.Dec.{T}
 use lib.Ieee.{Float, nan, inf, fin, Format, sub, neg, le, lt, eq}
-use lib.Ieee.Bits.{is-true, is-false}
+use lib.Ieee.Bits.{is-true}
 use lib.Ieee.Scale.{finite}
 use lib.Ieee.Positive.{den, den-pos}
 use Rattle.ieee.specs.Alike.{Alike}
@@ -16,7 +16,7 @@ use Rattle.ieee.specs.Fraction.{plus, less}
 use Rattle.ieee.proofs.Test.{yes}
 use Rattle.ieee.proofs.Like.{like-neg}
 use Rattle.ieee.proofs.Compare.{like-lt, like-cond}
-use Rattle.ieee.proofs.Order.{lt→le, le-trans-float, minus-le, not-below, Val, own-val, vals→le, number, finite-number, not-lt→le, le-refl-float, neg-number, neg-finite, between, les→eq}
+use Rattle.ieee.proofs.Order.{lt→le, le-trans-float, minus-le, le→not-lt, Val, own-val, vals→le, number, finite-number, not-lt→le, le-refl-float, neg-number, neg-finite, between, les→eq}
 use Rattle.ieee.proofs.Rounds.{rounds-same, sub-at}
 use Rattle.ieee.proofs.Exact.{Exact, rounds-exact, zero-exact}
 use Rattle.numbers.specs.Range.{limited, greater, smaller}
@@ -48,13 +48,8 @@ limit-in x l p q z = go (lt x (neg l)) (lt l x) (not-lt→le x (neg l) p (neg-nu
 pub limit-finite : (x l : Float) → T (number x) → T (finite l) → T (le zero₀ l) → T (finite (limited x l))
 limit-finite x l p q z = let h = limit-in x l p q z in between (neg l) (limited x l) l (neg-finite l q) q (h .0) (h .1)
 
-above-not : (x y : Float) → T (finite x) → T (finite y) → T (le y x) → lt x y ≡ false
-above-not x y p q h = is-false (lt x y) (not-T (lt x y) (not-below x y p q h))
-
-pub limit-inside : (x l : Float) → T (finite l) → T (le (neg l) x) → T (le x l) → limited x l ≡ x
-limit-inside x l q h k =
-    let p = between (neg l) x l (neg-finite l q) q h k in
-    sym (limit-none x l (above-not x (neg l) p (neg-finite l q) h) (above-not l x q p k))
+pub limit-inside : (x l : Float) → T (le (neg l) x) → T (le x l) → limited x l ≡ x
+limit-inside x l h k = sym (limit-none x l (le→not-lt (neg l) x h) (le→not-lt x l k))
 
 -- for a number x this is the source's `x.max(-l).min(l)`, zeros' signs included
 pub limit-max-min : (x l : Float) → T (finite l) → T (le zero₀ l) → limited x l ≡ smaller (greater x (neg l)) l
@@ -62,7 +57,7 @@ unfolding limited
 limit-max-min x l q z = go (lt x (neg l))
   where
     go : (a : Bool) → cond a (neg l) (cond (lt l x) l x) ≡ smaller (cond a (neg l) x) l
-    go true = sym (ap (λ (b : Bool). cond b l (neg l)) (above-not l (neg l) q (neg-finite l q) (minus-le l q z)))
+    go true = sym (ap (λ (b : Bool). cond b l (neg l)) (le→not-lt (neg l) l (minus-le l q z)))
     go false = refl
 
 -- what lies above l does not lie below -l
@@ -78,7 +73,7 @@ high-not-low (inf false) l q z h = top-not (neg l) (neg-finite l q)
     top-not (fin s m e) q = unfold lt in refl
 high-not-low (fin s m e) l q z h =
     let x = fin s m e in
-    above-not x (neg l) tt (neg-finite l q) (le-trans-float (neg l) l x (minus-le l q z) (lt→le l x (yes h)))
+    le→not-lt (neg l) x (le-trans-float (neg l) l x (minus-le l q z) (lt→le l x (yes h)))
 
 -- and the source's `clamp_f32`, which takes the upper end first
 pub limit-min-max : (x l : Float) → T (finite l) → T (le zero₀ l) → limited x l ≡ greater (smaller x l) (neg l)
@@ -86,7 +81,7 @@ unfolding limited
 limit-min-max x l q z = go (lt l x) (high-not-low x l q z)
   where
     go : (b : Bool) → (b ≡ true → lt x (neg l) ≡ false) → cond (lt x (neg l)) (neg l) (cond b l x) ≡ greater (cond b l x) (neg l)
-    go true h = rw (h refl, above-not l (neg l) q (neg-finite l q) (minus-le l q z))
+    go true h = rw (h refl, le→not-lt (neg l) l (minus-le l q z))
     go false h = refl
 
 -- ---- of floats alike

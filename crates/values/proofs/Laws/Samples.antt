@@ -1,12 +1,14 @@
 -- The samples of a slice: how many there are, the one at an index, a part of the slice, one stored; and the way back. Assumes nothing.
-use mathlib.Core.Path.{_≡_, refl, ap}
+use mathlib.Core.Path.{_≡_, refl, sym, ap}
 use mathlib.Core.List.{List, [], _∷_, _++_}
-use Prim.Native.Nat.{ℕ, zero, suc, _+_, _*_, _/_, _%_, _<_}
+use Prim.Native.Nat.{ℕ, zero, suc, _+_, _*_, _/_, _%_, _<_, _≤_}
+use native.Mathlib.Numerals.{add-one}
 use native.Mathlib.Omega.{arith}
-use lib.ListN.{length, getD, take, drop, set}
+use borrow.Author.Tests.{lt-ltb, le-ltb}
+use lib.ListN.{List·getD-eq-default, length, getD, take, drop, set}
 use lib.Ieee.{Float}
 use Rattle.values.specs.declared.sample.C32.{C32}
-use Rattle.values.specs.Samples.{samples, parts}
+use Rattle.values.specs.Samples.{samples, parts, stored}
 
 pub length-samples : (xs : List Float) → length (samples xs) ≡ length xs / 2
 unfolding samples
@@ -44,6 +46,10 @@ getD-samples (x ∷ y ∷ l) (suc i) z d h =
     let g : suc (suc (2 * i)) + 1 ≡ suc (suc (2 * i + 1)) = omega arith in
     rw (twice-suc i, g) (getD-samples l i z d (omega arith))
 
+-- past the last sample
+pub getD-past : (xs : List Float) (i : ℕ) (z : C32) → length xs / 2 ≤ i → getD (samples xs) i z ≡ z
+getD-past xs i z h = List·getD-eq-default (samples xs) z (omega (arith, length-samples xs))
+
 -- storing both parts stores the sample
 pub samples-set : (xs : List Float) (i : ℕ) (z : C32) → i < length xs / 2 → samples (set (set xs (2 * i) (z .re)) (2 * i + 1) (z .im)) ≡ set (samples xs) i z
 unfolding samples
@@ -77,3 +83,10 @@ unfolding samples
 samples-append [] ys h = refl
 samples-append (x ∷ []) ys h = absurd (omega arith)
 samples-append (x ∷ y ∷ l) ys h = ap (λ (m : List C32). record { re = x; im = y } ∷ m) (samples-append l ys (omega arith))
+
+-- ---- a sample is stored
+pub stored-in : (ys : List Float) (k : ℕ) (y : C32) → k < length ys / 2 → stored ys k y ≡ set (set ys (2 * k) (y .re)) (2 * k + 1) (y .im)
+stored-in ys k y h = rw (lt-ltb k (length ys / 2) h) (ap (λ (i : ℕ). set (set ys (2 * k) (y .re)) i (y .im)) (sym (add-one (2 * k))))
+
+pub stored-past : (ys : List Float) (k : ℕ) (y : C32) → length ys / 2 ≤ k → stored ys k y ≡ ys
+stored-past ys k y h = rw (le-ltb k (length ys / 2) h)

@@ -1,11 +1,12 @@
 -- `timing::interp1` meets its contract: the code is the definition, operation by operation. Assumes nothing.
 use mathlib.Core.Path.{refl}
+use lib.Ieee.{ofBits, round}
 use Rattle.timing.specs.Part.{interpolated}
 use Rattle.timing.proofs.part.interp1.Statement.{statement}
 use Rattle.timing.proofs.part.interp1.Tie as tie
 
 returns : tie.Need-returns
-unfolding interpolated
+unfolding interpolated ofBits round
 returns c = refl
 
 pub interp1-spec : {M : Type 1} → statement M

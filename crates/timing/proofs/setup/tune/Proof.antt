@@ -7,7 +7,7 @@ use lib.Ieee.Scale.{finite}
 use Rattle.ieee.specs.Constants.{zero₀}
 use Rattle.timing.specs.declared.params.Params.{Params}
 use Rattle.timing.specs.declared.setup.Gains.{Gains}
-use Rattle.timing.specs.declared.setup.Tuning.the-variants.{Accepted}
+use Rattle.timing.specs.declared.setup.Tuning.the-variants.{Accepted, Refused}
 use Rattle.timing.specs.Setup.{decimal, inRange, positive, tuned, paramsWith}
 use Rattle.timing.specs.Given.{Tuned}
 use Rattle.timing.proofs.Laws.Rows.{first-passed, first-refused, all-passed, passes, fails}
@@ -62,23 +62,23 @@ accepted-requires c κs = search needs
 
 returns : tie.Need-returns
 unfolding tuned ofBits round
-returns c = (sym (first-refused _ _ _ (fails (c .before .within .ensures) (c .if1 .taken))), tt)
+returns c = (sym (first-refused Refused _ _ _ (fails (c .before .within .ensures) (c .if1 .taken))), tt)
 
 returns-2 : tie.Need-returns-2
 unfolding tuned ofBits round
-returns-2 c = (sym (first-passed _ _ _ (passed1 (c .before .before)) ∙ first-refused _ _ _ (fails (c .before .within2 .ensures) (c .if2 .taken))), tt)
+returns-2 c = (sym (first-passed Refused _ _ _ (passed1 (c .before .before)) ∙ first-refused Refused _ _ _ (fails (c .before .within2 .ensures) (c .if2 .taken))), tt)
 
 returns-3 : tie.Need-returns-3
 unfolding tuned ofBits round
-returns-3 c = (sym (first-passed _ _ _ (passed1 (c .before .before .before .before)) ∙ first-passed _ _ _ (passed2 (c .before .before)) ∙ first-refused _ _ _ (fails (c .before .within3 .ensures) (c .if3 .taken))), tt)
+returns-3 c = (sym (first-passed Refused _ _ _ (passed1 (c .before .before .before .before)) ∙ first-passed Refused _ _ _ (passed2 (c .before .before)) ∙ first-refused Refused _ _ _ (fails (c .before .within3 .ensures) (c .if3 .taken))), tt)
 
 returns-4 : tie.Need-returns-4
 unfolding tuned ofBits round
-returns-4 c = (sym (first-passed _ _ _ (passed1 (c .before .before .before .before .before .before)) ∙ first-passed _ _ _ (passed2 (c .before .before .before .before)) ∙ first-passed _ _ _ (passed3 (c .before .before)) ∙ first-refused _ _ _ (fails (c .before .within4 .ensures) (c .if4 .taken))), tt)
+returns-4 c = (sym (first-passed Refused _ _ _ (passed1 (c .before .before .before .before .before .before)) ∙ first-passed Refused _ _ _ (passed2 (c .before .before .before .before)) ∙ first-passed Refused _ _ _ (passed3 (c .before .before)) ∙ first-refused Refused _ _ _ (fails (c .before .within4 .ensures) (c .if4 .taken))), tt)
 
 returns-5 : tie.Need-returns-5
 unfolding tuned ofBits round
-returns-5 c = (sym (first-passed _ _ _ (passed1 (c .before .before .before .before .before .before .before .before)) ∙ first-passed _ _ _ (passed2 (c .before .before .before .before .before .before)) ∙ first-passed _ _ _ (passed3 (c .before .before .before .before)) ∙ first-passed _ _ _ (passed4 (c .before .before)) ∙ first-refused _ _ _ (fails (c .before .above-zero .ensures) (c .if5 .taken))), tt)
+returns-5 c = (sym (first-passed Refused _ _ _ (passed1 (c .before .before .before .before .before .before .before .before)) ∙ first-passed Refused _ _ _ (passed2 (c .before .before .before .before .before .before)) ∙ first-passed Refused _ _ _ (passed3 (c .before .before .before .before)) ∙ first-passed Refused _ _ _ (passed4 (c .before .before)) ∙ first-refused Refused _ _ _ (fails (c .before .above-zero .ensures) (c .if5 .taken))), tt)
 
 -- whether the gains are finite, of the gains as the code has them
 gains-are : (b : Bool) (g h : Gains) → g ≡ h → (finite (g .kp) && finite (g .ki)) ≡ b → (finite (h .kp) && finite (h .ki)) ≡ b
@@ -86,7 +86,7 @@ gains-are b g h e p = subst (λ (g : Gains). (finite (g .kp) && finite (g .ki)) 
 
 returns-6 : tie.Need-returns-6
 unfolding tuned
-returns-6 c = (sym (first-passed _ _ _ (passed1 (c .before .before .before .before .before .before .before .before .before .before .before)) ∙ first-passed _ _ _ (passed2 (c .before .before .before .before .before .before .before .before .before)) ∙ first-passed _ _ _ (passed3 (c .before .before .before .before .before .before .before)) ∙ first-passed _ _ _ (passed4 (c .before .before .before .before .before)) ∙ first-passed _ _ _ (passed5 (c .before .before .before)) ∙ first-refused _ _ _ (gains-are false _ _ (c .before .before .gains-of .ensures) (fails (c .before .both-finite .ensures) (c .if6 .taken)))), tt)
+returns-6 c = (sym (first-passed Refused _ _ _ (passed1 (c .before .before .before .before .before .before .before .before .before .before .before)) ∙ first-passed Refused _ _ _ (passed2 (c .before .before .before .before .before .before .before .before .before)) ∙ first-passed Refused _ _ _ (passed3 (c .before .before .before .before .before .before .before)) ∙ first-passed Refused _ _ _ (passed4 (c .before .before .before .before .before)) ∙ first-passed Refused _ _ _ (passed5 (c .before .before .before)) ∙ first-refused Refused _ _ _ (gains-are false _ _ (c .before .before .gains-of .ensures) (fails (c .before .both-finite .ensures) (c .if6 .taken)))), tt)
 
 returns-7 : tie.Need-returns-7
 returns-7 c =

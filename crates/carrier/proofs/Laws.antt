@@ -1,0 +1,19 @@
+-- The laws of this crate's definitions.
+pub mod Setup
+pub mod Gains
+pub mod Refused
+pub mod Given
+pub mod Class
+pub mod Size
+pub mod Octant
+pub mod Points
+pub mod OctantTurn
+pub mod Eight
+pub mod Quad
+pub mod Inside
+pub mod Sign
+pub mod Derotation
+pub mod Turning
+pub mod TurnedRun
+pub mod Turned
+pub mod Cases

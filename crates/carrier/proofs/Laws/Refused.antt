@@ -1,0 +1,29 @@
+-- Which calls are refused, with what number, and that a refused call leaves state and output as they were: "in a run 8 before 7". Assumes nothing.
+use mathlib.Core.Path.{_≡_, ap, _∙_}
+use mathlib.Core.Bool.{Bool, true, false, cond}
+use mathlib.Core.List.{List}
+use borrow.Author.Tests.{eq-eqb, ne-eqb}
+use lib.Dec.{eqb}
+use lib.ListN.{length}
+use lib.Ieee.{Float}
+use Rattle.values.specs.declared.error.Refusal.the-variants.{Uneven, Odd}
+use Rattle.timing.specs.Run.{oddEither}
+use Rattle.carrier.specs.declared.state.CostasState.{CostasState}
+use Rattle.carrier.specs.Run.{Outcome, turnedAway, done, called}
+
+module _ (s : CostasState) (xs ys : List Float) where
+  -- a call, by its two tests
+  abbrev by : Bool → Bool → Outcome
+  by odd even = cond odd (turnedAway Odd s ys) (cond even (done s xs) (turnedAway Uneven s ys))
+
+  pub called-odd : oddEither xs ys ≡ true → called s xs ys ≡ turnedAway Odd s ys
+  unfolding called
+  called-odd h = ap (λ (b : Bool). by b (eqb (length xs) (length ys))) h
+
+  pub called-uneven : oddEither xs ys ≡ false → (length xs ≡ length ys → ⊥) → called s xs ys ≡ turnedAway Uneven s ys
+  unfolding called
+  called-uneven h k = ap (λ (b : Bool). by b (eqb (length xs) (length ys))) h ∙ ap (by false) (ne-eqb (length xs) (length ys) k)
+
+  pub called-done : oddEither xs ys ≡ false → length xs ≡ length ys → called s xs ys ≡ done s xs
+  unfolding called
+  called-done h k = ap (λ (b : Bool). by b (eqb (length xs) (length ys))) h ∙ ap (by false) (eq-eqb (length xs) (length ys) k)

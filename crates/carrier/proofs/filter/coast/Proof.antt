@@ -1,0 +1,55 @@
+-- `carrier::filter::coast` meets its contract, by what its callees ensure; the phase step of an f32 in f64 is the same. Assumes nothing.
+use mathlib.Core.Path.{ap, _∙_}
+use Prim.Native.Nat.{ℕ, _+_, _%_, _^_}
+use lib.Ieee.{Float, binary32, ofBits}
+use lib.Ieee.Fits.{add-fits}
+use Rattle.ieee.specs.Constants.{zero₀}
+use Rattle.modulate.specs.Step.{phaseStep, stepOf, turn₀}
+use Rattle.modulate.proofs.Laws.StepSingle.{step-single}
+use Rattle.numbers.specs.Range.{limited}
+use Rattle.timing.specs.Part.{_⊕_, _⊗_}
+use Rattle.carrier.specs.Filter.{newFreq, advanced}
+use borrow.Author.Needs.{needs}
+use Rattle.carrier.proofs.filter.coast.Statement.{statement}
+use Rattle.carrier.proofs.filter.coast.Tie as tie
+use Rattle.modulate.proofs.phase_step.Reads as phase-step-reads
+use Rattle.numbers.proofs.flush_denormal.Reads as flush-denormal-reads
+use Rattle.numbers.proofs.limit_f32.Reads as limit-f32-reads
+use Rattle.numbers.proofs.widen.Reads as widen-reads
+use Rattle.std.proofs.num.wrapping_add_u32.Reads as wrapping-add-u32-reads
+
+flush-denormal-requires : tie.Need-flush-denormal-requires
+flush-denormal-requires c κs = search needs
+
+limit-f32-requires : tie.Need-limit-f32-requires
+limit-f32-requires c κs = search needs
+
+widen-requires : tie.Need-widen-requires
+widen-requires c κs = search needs
+
+phase-step-requires : tie.Need-phase-step-requires
+phase-step-requires c κs = search needs
+
+wrapping-add-u32-requires : tie.Need-wrapping-add-u32-requires
+wrapping-add-u32-requires c κs = search needs
+
+returns : tie.Need-returns
+unfolding newFreq advanced ofBits
+returns c =
+    let a = c .before .before .before .before .before .before .before .before .args in
+    let f = c .before .before .before .before .limit-f32 .ensures ∙ ap (λ (x : Float). limited x (a .p .max)) (c .before .before .before .before .before .flush-denormal .ensures) in
+    let v : Float → Float = λ x. x ⊕ a .p .kp ⊗ zero₀ in
+    let s = c .before .phase-step .ensures ∙ ap (λ (x : Float). stepOf x turn₀) (c .before .before .widen .ensures) ∙ step-single _ (add-fits binary32 _ _) ∙ ap (λ (x : Float). phaseStep (v x)) f in
+    let p = c .wrapping-add-u32 .ensures ∙ ap (λ (i : ℕ). (a .n .phase + i) % 2 ^ 32) s in
+    λ j. record { phase = p j; freq = f j }
+
+pub coast-spec : {M : Type 1} → statement M
+coast-spec =
+    tie.close
+    (tie.spec
+    flush-denormal-requires
+    limit-f32-requires
+    widen-requires
+    phase-step-requires
+    wrapping-add-u32-requires
+    returns)

@@ -1,0 +1,36 @@
+-- `carrier::filter::steer` meets its contract, by what its callees ensure. Assumes nothing.
+use mathlib.Core.Path.{ap, _∙_}
+use Prim.Native.Nat.{ℕ, _+_, _%_, _^_}
+use lib.Ieee.{Float}
+use Rattle.modulate.specs.Step.{phaseStep}
+use Rattle.timing.specs.Part.{_⊕_, _⊗_}
+use Rattle.carrier.specs.Filter.{newFreq, advanced}
+use borrow.Author.Needs.{needs}
+use Rattle.carrier.proofs.filter.steer.Statement.{statement}
+use Rattle.carrier.proofs.filter.steer.Tie as tie
+use Rattle.carrier.proofs.filter.integrate.Reads as integrate-reads
+use Rattle.modulate.proofs.phase_step_f32.Reads as phase-step-f32-reads
+use Rattle.std.proofs.num.wrapping_add_u32.Reads as wrapping-add-u32-reads
+
+integrate-requires : tie.Need-integrate-requires
+integrate-requires c κs = search needs
+
+phase-step-f32-requires : tie.Need-phase-step-f32-requires
+phase-step-f32-requires c κs = search needs
+
+wrapping-add-u32-requires : tie.Need-wrapping-add-u32-requires
+wrapping-add-u32-requires c κs = search needs
+
+returns : tie.Need-returns
+unfolding newFreq advanced
+returns c =
+    let a = c .before .before .before .before .before .before .args in
+    let f = c .before .before .before .integrate .ensures in
+    let s = c .before .phase-step-f32 .ensures ∙ ap (λ (x : Float). phaseStep (x ⊕ a .p .kp ⊗ a .e)) f in
+    let p = c .wrapping-add-u32 .ensures ∙ ap (λ (i : ℕ). (a .n .phase + i) % 2 ^ 32) s in
+    λ j. record { phase = p j; freq = f j }
+
+pub steer-spec : {M : Type 1} → statement M
+steer-spec =
+    tie.close
+    (tie.spec integrate-requires phase-step-f32-requires wrapping-add-u32-requires returns)

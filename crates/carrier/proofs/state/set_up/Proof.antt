@@ -1,0 +1,78 @@
+-- `carrier::set_up` meets its contract: the tests that led to an answer are the rows that the definition goes by. Assumes nothing.
+use mathlib.Core.Path.{_≡_, sym, ap, _∙_, subst}
+use mathlib.Core.Bool.{true}
+use lib.Ieee.{ofBits, round}
+use Rattle.ieee.specs.Constants.{zero₀}
+use Rattle.timing.specs.Setup.{decimal, inRange}
+use Rattle.timing.proofs.Laws.Rows.{first-passed, first-refused, passes, fails}
+use Rattle.carrier.specs.declared.params.Params.{Params}
+use Rattle.carrier.specs.declared.state.CostasState.{CostasState}
+use Rattle.carrier.specs.declared.state.SetUp.the-variants.{Ready, Refused}
+use Rattle.carrier.specs.State.{paramsOf, fresh, opened, Given}
+use Rattle.carrier.proofs.Laws.Setup.{all-passed}
+use Rattle.carrier.proofs.Laws.Given.{fresh-given}
+use borrow.Author.Needs.{needs}
+use Rattle.carrier.proofs.state.set_up.Statement.{statement}
+use Rattle.carrier.proofs.state.set_up.Tie as tie
+
+-- what the tests say of the rows that were passed
+passed1 : (c : tie.Else1) → inRange (decimal 1 10000) (c .before .before .args .loop-bw) (decimal 2 10) ≡ true
+unfolding ofBits round
+passed1 c = passes (c .before .within .ensures) (c .if1 .left)
+
+passed2 : (c : tie.Else2) → inRange (decimal 1 10) (c .before .before .before .before .args .damping) (decimal 4 1) ≡ true
+unfolding ofBits round
+passed2 c = passes (c .before .within2 .ensures) (c .if2 .left)
+
+passed3 : (c : tie.Else3) → inRange zero₀ (c .before .before .before .before .before .before .args .max-offset) (decimal 25 100) ≡ true
+unfolding ofBits round
+passed3 c = passes (c .before .within3 .ensures) (c .if3 .left)
+
+within-requires : tie.Need-within-requires
+within-requires c κs = search needs
+
+within-requires-2 : tie.Need-within-requires-2
+within-requires-2 c κs = search needs
+
+within-requires-3 : tie.Need-within-requires-3
+within-requires-3 c κs = search needs
+
+params-of-requires : tie.Need-params-of-requires
+params-of-requires c κs = search needs
+
+start-requires : tie.Need-start-requires
+start-requires c κs = search needs
+
+returns : tie.Need-returns
+unfolding opened ofBits round
+returns c = (sym (first-refused Refused _ _ _ (fails (c .before .within .ensures) (c .if1 .taken))), tt)
+
+returns-2 : tie.Need-returns-2
+unfolding opened ofBits round
+returns-2 c = (sym (first-passed Refused _ _ _ (passed1 (c .before .before)) ∙ first-refused Refused _ _ _ (fails (c .before .within2 .ensures) (c .if2 .taken))), tt)
+
+returns-3 : tie.Need-returns-3
+unfolding opened ofBits round
+returns-3 c = (sym (first-passed Refused _ _ _ (passed1 (c .before .before .before .before)) ∙ first-passed Refused _ _ _ (passed2 (c .before .before)) ∙ first-refused Refused _ _ _ (fails (c .before .within3 .ensures) (c .if3 .taken))), tt)
+
+returns-4 : tie.Need-returns-4
+unfolding paramsOf
+returns-4 c =
+    let a = c .before .before .before .before .before .before .before .before .args in
+    let s = c .start .ensures ∙ ap (λ (p : Params). fresh (a .constellation) p) (c .before .params-of .ensures) in
+    let e = all-passed (a .constellation) (a .loop-bw) (a .damping) (a .max-offset) (passed1 (c .before .before .before .before .before .before)) (passed2 (c .before .before .before .before)) (passed3 (c .before .before)) in
+    (ap (λ (s : CostasState). Ready s) s ∙ sym e, subst (λ (s : CostasState). Given s) (sym s) (fresh-given (a .constellation) (paramsOf (a .loop-bw) (a .damping) (a .max-offset)) e))
+
+pub set-up-spec : {M : Type 1} → statement M
+set-up-spec =
+    tie.close
+    (tie.spec
+    within-requires
+    returns
+    within-requires-2
+    returns-2
+    within-requires-3
+    returns-3
+    params-of-requires
+    start-requires
+    returns-4)

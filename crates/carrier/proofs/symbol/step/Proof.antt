@@ -1,0 +1,52 @@
+-- `carrier::step` meets its contract, by what its callees ensure. Assumes nothing.
+use mathlib.Core.Path.{ap, _∙_}
+use lib.Ieee.{Float}
+use Rattle.carrier.specs.Detector.{detected, calmed, errorOf}
+use Rattle.carrier.specs.Lock.{metricOf, watched}
+use Rattle.carrier.specs.Filter.{advanced}
+use Rattle.carrier.specs.Step.{stepped}
+use borrow.Author.Needs.{needs}
+use Rattle.carrier.proofs.symbol.step.Statement.{statement}
+use Rattle.carrier.proofs.symbol.step.Tie as tie
+use Rattle.carrier.proofs.detection.detector.Reads as detector-reads
+use Rattle.carrier.proofs.filter.advance.Reads as advance-reads
+use Rattle.carrier.proofs.lock.lock_metric.Reads as lock-metric-reads
+use Rattle.carrier.proofs.lock.watch.Reads as watch-reads
+use Rattle.carrier.proofs.octants.decide.Reads as decide-reads
+
+decide-requires : tie.Need-decide-requires
+decide-requires c κs = search needs
+
+detector-requires : tie.Need-detector-requires
+detector-requires c κs = search needs
+
+advance-requires : tie.Need-advance-requires
+advance-requires c κs = search needs
+
+lock-metric-requires : tie.Need-lock-metric-requires
+lock-metric-requires c κs = search needs
+
+watch-requires : tie.Need-watch-requires
+watch-requires c κs = search needs
+
+returns : tie.Need-returns
+unfolding stepped errorOf
+returns c =
+    let a = c .before .before .before .before .before .before .before .args in
+    let d = c .before .before .before .before .before .before .decide .ensures in
+    let e = c .before .before .before .before .before .detector .ensures ∙ ap (detected (a .constellation) (a .y)) d in
+    let n = c .before .before .before .advance .ensures ∙ ap (λ (x : Float). advanced (a .p) (a .t .nco) (calmed x)) e in
+    let m = c .before .lock-metric .ensures ∙ ap (metricOf (a .constellation) (a .y)) d in
+    let k = c .watch .ensures ∙ ap (watched (a .t .lock)) m in
+    λ j. record { nco = n j; lock = k j }
+
+pub step-spec : {M : Type 1} → statement M
+step-spec =
+    tie.close
+    (tie.spec
+    decide-requires
+    detector-requires
+    advance-requires
+    lock-metric-requires
+    watch-requires
+    returns)

@@ -1,0 +1,60 @@
+-- "Turned recordings", for the carrier alone: a list of calls, each on the state that the last one left, and what it means that a second list is the first turned k times. Definitions only.
+use mathlib.Core.Path.{_≡_}
+use Prim.Native.Nat.{ℕ, _+_, _-_, _%_}
+use mathlib.Core.Bool.{true}
+use mathlib.Core.List.{List, [], _∷_}
+use lib.Dec.{T}
+use lib.ListN.{length}
+use Rattle.ieee.specs.Alike.{Alike}
+use Rattle.values.specs.Samples.{samples}
+use Rattle.values.specs.Each.{Each}
+use Rattle.values.specs.Turn.{AllTurned}
+use Rattle.mix.specs.Quarter.{quartersOn}
+use Rattle.timing.specs.Calls.{Call}
+use Rattle.carrier.specs.declared.constellation.CostasConstellation.{CostasConstellation}
+use Rattle.carrier.specs.declared.constellation.CostasConstellation.the-variants.{Bpsk, Qpsk, Psk8}
+use Rattle.carrier.specs.declared.state.CostasState.{CostasState}
+use Rattle.carrier.specs.Run.{Outcome, called, accepts}
+
+-- the outcomes of a list of calls: "each call gets the receiver that the last one returned or left, a refused one too"
+unfoldable pub outcomes : CostasState → List Call → List Outcome
+outcomes s [] = []
+outcomes s (c ∷ cs) = let r = called s (c .input) (c .output) in r ∷ outcomes (r .state) cs
+
+-- and the state after it
+unfoldable pub after : CostasState → List Call → CostasState
+after s [] = s
+after s (c ∷ cs) = after (called s (c .input) (c .output) .state) cs
+
+-- "k and m are 0 to 3, under BPSK with k - m even"
+abbrev pub Allowed : CostasConstellation → ℕ → ℕ → Type 0
+Allowed Bpsk k m = (k + m) % 2 ≡ 0
+Allowed Qpsk k m = T true
+Allowed Psk8 k m = T true
+
+-- "(k - m) mod 4"
+abbrev pub turnsLess : ℕ → ℕ → ℕ
+turnsLess k m = (k + (4 - m)) % 4
+
+-- "the same buffer lengths and each input turned k times; where a call is refused, only lengths must agree"
+pub record TurnedCall (k : ℕ) (c d : Call) : Type 0 where
+  pub inputs : length (d .input) ≡ length (c .input)
+  pub outputs : length (d .output) ≡ length (c .output)
+  pub turned : accepts (c .input) (c .output) ≡ true → AllTurned k (samples (c .input)) (samples (d .input))
+
+-- "Equal are all numbers … answered in the list"; "each output sample" is turned j times
+pub record TurnedOutcome (j : ℕ) (q r : Outcome) : Type 0 where
+  pub number : r .number ≡ q .number
+  pub turned : q .number ≡ 0 → AllTurned j (samples (q .output)) (samples (r .output))
+
+-- "and, after it, … frequency, level and lock; the second phase is the first plus m × 2^30, modulo 2^32"
+pub record SameCarrier (m : ℕ) (s t : CostasState) : Type 0 where
+  pub frequency : Alike (t .track .nco .freq) (s .track .nco .freq)
+  pub level : Alike (t .track .lock .level) (s .track .lock .level)
+  pub lock : t .track .lock .locked ≡ s .track .lock .locked
+  pub phase : t .track .nco .phase ≡ quartersOn m (s .track .nco .phase)
+
+-- the single claim about two lists of calls, from the states s and t
+pub record TurnedList (k m : ℕ) (s t : CostasState) (cs ds : List Call) : Type 0 where
+  pub answers : Each (TurnedOutcome (turnsLess k m)) (outcomes s cs) (outcomes t ds)
+  pub carriers : SameCarrier m (after s cs) (after t ds)

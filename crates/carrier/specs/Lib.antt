@@ -1,0 +1,9 @@
+pub mod Octant
+pub mod Detector
+pub mod Lock
+pub mod Gains
+pub mod Filter
+pub mod Step
+pub mod State
+pub mod Run
+pub mod Calls

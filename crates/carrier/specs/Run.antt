@@ -1,0 +1,46 @@
+-- One call of the carrier loop: when it is refused, and with what number, state and output it ends. Definitions only.
+use Prim.Native.Nat.{ℕ}
+use mathlib.Core.Bool.{Bool, not, _&&_, cond}
+use mathlib.Core.List.{List}
+use lib.Dec.{eqb}
+use lib.ListN.{length}
+use lib.Ieee.{Float}
+use Rattle.values.specs.declared.error.Refusal.{Refusal}
+use Rattle.values.specs.declared.error.Refusal.the-variants.{Uneven, Odd}
+use Rattle.values.specs.Refusal.{numberOf}
+use Rattle.values.specs.Samples.{samples, parts}
+use Rattle.cosine.specs.Table.{cosList}
+use Rattle.timing.specs.Run.{oddEither}
+use Rattle.carrier.specs.declared.state.CostasState.{CostasState}
+use Rattle.carrier.specs.declared.state.Reply.{Reply}
+use Rattle.carrier.specs.declared.state.Reply.the-variants.{Done, Refused}
+use Rattle.carrier.specs.Step.{Symbols, runs}
+
+-- document 01's number (0: done), the state, and what the output holds; "the carrier alone has no counts"
+pub record Outcome : Type 0 where
+  pub number : ℕ
+  pub state : CostasState
+  pub output : List Float
+
+abbrev pub replied : Reply → ℕ
+replied Done = 0
+replied (Refused n) = numberOf n
+
+-- the symbols of a run from s
+abbrev pub symbols : CostasState → List Float → Symbols
+symbols s xs = runs cosList (s .constellation) (s .params) (s .track) (samples xs)
+
+-- "A refused run yields its number, …, the same state, and every buffer unchanged."
+abbrev pub turnedAway : Refusal → CostasState → List Float → Outcome
+turnedAway n s ys = record { number = numberOf n; state = s; output = ys }
+
+abbrev pub done : CostasState → List Float → Outcome
+done s xs = let r = symbols s xs in record { number = 0; state = record { constellation = s .constellation; params = s .params; track = r .last }; output = parts (r .values) }
+
+-- "in a run 8 before 7": an odd count of f32 in either buffer, then lengths that differ
+unfoldable pub called : CostasState → List Float → List Float → Outcome
+called s xs ys = cond (oddEither xs ys) (turnedAway Odd s ys) (cond (eqb (length xs) (length ys)) (done s xs) (turnedAway Uneven s ys))
+
+-- whether a call is not refused
+abbrev pub accepts : List Float → List Float → Bool
+accepts xs ys = not (oddEither xs ys) && eqb (length xs) (length ys)

@@ -1,0 +1,64 @@
+-- The state of the loop: which set-up is refused and which state a set-up, a reset or a setter gives; and what holds of every such state. Definitions only.
+use mathlib.Core.Path.{_≡_}
+use Prim.Native.Nat.{ℕ, _<_, _^_}
+use mathlib.Core.Bool.{true, false, cond}
+use mathlib.Core.List.{List, [], _∷_}
+use lib.Dec.{T}
+use lib.Ieee.{Float, binary32, neg, le, isNan}
+use Rattle.ieee.specs.Constants.{zero₀}
+use Rattle.values.specs.declared.error.Refusal.the-variants.{Width, Damping, Pull}
+use Rattle.numbers.specs.Denormal.{flushed}
+use Rattle.numbers.specs.Narrowing.{narrowed}
+use Rattle.numbers.specs.Range.{limited}
+use Rattle.timing.specs.Setup.{decimal, inRange, Row, firstOf}
+use Rattle.carrier.specs.declared.constellation.CostasConstellation.{CostasConstellation}
+use Rattle.carrier.specs.declared.params.Params.{Params}
+use Rattle.carrier.specs.declared.state.CostasState.{CostasState}
+use Rattle.carrier.specs.declared.state.SetUp.{SetUp}
+use Rattle.carrier.specs.declared.state.SetUp.the-variants.{Ready, Refused}
+use Rattle.carrier.specs.Gains.{kpOf, kiOf}
+
+-- "The limit is flush of the offset narrowed to f32."
+unfoldable pub paramsOf : Float → Float → Float → Params
+paramsOf bw damping offset =
+    record { «loop_bw» = bw; damping = damping; «max_offset» = offset; kp = kpOf bw damping; ki = kiOf bw damping; max = flushed binary32 (narrowed offset) }
+
+-- "Fresh: phase 0 (32 bits are one turn), frequency, level 0, unlocked; reset likewise."
+abbrev pub fresh : CostasConstellation → Params → CostasState
+fresh c p = record { constellation = c; params = p; track = record { nco = record { phase = 0; freq = zero₀ }; lock = record { level = zero₀; locked = false } } }
+
+-- rows 2 to 4 of "Answers of a call"
+abbrev pub rows : Float → Float → Float → List Row
+rows bw damping offset =
+    record { passed = inRange (decimal 1 10000) bw (decimal 2 10); reason = Width }
+    ∷ record { passed = inRange (decimal 1 10) damping (decimal 4 1); reason = Damping }
+    ∷ record { passed = inRange zero₀ offset (decimal 25 100); reason = Pull }
+    ∷ []
+
+-- a set-up's answer: "A refused set-up yields its number and no state."
+unfoldable pub opened : CostasConstellation → Float → Float → Float → SetUp
+opened c bw damping offset = firstOf Refused (rows bw damping offset) (Ready (fresh c (paramsOf bw damping offset)))
+
+-- "A phase may be set"
+abbrev pub phaseSet : CostasState → ℕ → CostasState
+phaseSet s phase = record { constellation = s .constellation; params = s .params; track = record { nco = record { phase = phase; freq = s .track .nco .freq }; lock = s .track .lock } }
+
+-- "a frequency set is narrowed, flushed, limited, NaN becoming 0"
+unfoldable pub frequencyOf : Float → Float → Float
+frequencyOf freq max = let f = flushed binary32 (narrowed freq) in cond (isNan f) zero₀ (limited f max)
+
+abbrev pub frequencySet : CostasState → Float → CostasState
+frequencySet s freq = record { constellation = s .constellation; params = s .params; track = record { nco = record { phase = s .track .nco .phase; freq = frequencyOf freq (s .params .max) }; lock = s .track .lock } }
+
+-- ---- a state that a set-up, a reset, a setter or a run has given: all that a public call requires
+pub record Given (s : CostasState) : Type 0 where
+  -- its parameters are those of a set-up that is accepted
+  pub accepted : opened (s .constellation) (s .params .«loop_bw») (s .params .damping) (s .params .«max_offset») ≡ Ready (fresh (s .constellation) (s .params))
+  pub phase-in : s .track .nco .phase < 2 ^ 32
+  -- "-max ≤ frequency ≤ max"
+  pub freq-low : T (le (neg (s .params .max)) (s .track .nco .freq))
+  pub freq-high : T (le (s .track .nco .freq) (s .params .max))
+
+abbrev pub SetUpGiven : SetUp → Type 0
+SetUpGiven (Ready s) = Given s
+SetUpGiven (Refused n) = T true

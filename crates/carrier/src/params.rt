@@ -1,0 +1,41 @@
+// The values of a set-up, and the gains and the limit that it works out of them, from kernels/costas.rs.
+ghost use mathlib.Core.Path.{_≡_};
+ghost use Rattle.carrier.specs.Gains.{kpOf, kiOf};
+
+// The three values of a set-up, the gains and the limit.
+pub struct Params {
+    // Loop bandwidth, normalized to the symbol rate.
+    pub loop_bw: f64,
+    pub damping: f64,
+    // Limit of the frequency integrator in cycles per symbol, as it was given.
+    pub max_offset: f64,
+    // Proportional gain in cycles per symbol per unit of the detector's output.
+    pub kp: f32,
+    // Integral gain.
+    pub ki: f32,
+    // The limit as the loop uses it.
+    pub max: f32,
+}
+
+// The proportional and the integral gain.
+pub struct LoopGains {
+    pub kp: f32,
+    pub ki: f32,
+}
+
+// 2 pi, the nearest f64.
+const TAU: f64 = 6.283185307179586;
+
+// The gains, computed in f64 and narrowed.
+pub fn loop_gains(loop_bw: f64, damping: f64) -> LoopGains
+    ensures { λ r. ⌜ r ≡ record { kp = kpOf «loop_bw» damping; ki = kiOf «loop_bw» damping } ⌝ }
+{
+    let theta = loop_bw / (damping + 1.0 / (4.0 * damping));
+    let d = (1.0 + (2.0 * damping) * theta) + theta * theta;
+    let kp = (((4.0 * damping) * theta) / d) / TAU;
+    let ki = ((4.0 * (theta * theta)) / d) / TAU;
+    LoopGains {
+        kp: numbers::narrow(kp),
+        ki: numbers::narrow(ki),
+    }
+}

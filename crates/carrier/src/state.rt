@@ -1,0 +1,222 @@
+// The state of the loop, its set-up, reset, setters and readings, from kernels/costas.rs.
+use crate::constellation::CostasConstellation;
+use crate::filter::Nco;
+use crate::lock::Lock;
+use crate::params::Params;
+use crate::symbol::Track;
+use values::Refusal;
+ghost use mathlib.Core.Path.{_≡_};
+ghost use Rattle.carrier.specs.State.{paramsOf, fresh, opened, phaseSet, frequencyOf, frequencySet, Given, SetUpGiven};
+
+// The constellation, what a set-up settles, and what a run changes.
+pub struct CostasState {
+    pub constellation: CostasConstellation,
+    pub params: Params,
+    pub track: Track,
+}
+
+// The answer of a set-up.
+pub enum SetUp {
+    Ready(CostasState),
+    Refused(Refusal),
+}
+
+// The answer of a run, which has no counts: every input sample gives an output sample.
+pub enum Reply {
+    Done,
+    Refused(Refusal),
+}
+
+// The values of a set-up with the gains and the limit. The limit is flushed: below 1e-30 it would keep
+// the integrator subnormal.
+fn params_of(loop_bw: f64, damping: f64, max_offset: f64) -> Params
+    ensures { λ r. ⌜ r ≡ paramsOf «loop_bw» damping «max_offset» ⌝ }
+{
+    let g = crate::params::loop_gains(loop_bw, damping);
+    Params {
+        loop_bw: loop_bw,
+        damping: damping,
+        max_offset: max_offset,
+        kp: g.kp,
+        ki: g.ki,
+        max: numbers::flush_denormal(numbers::narrow(max_offset)),
+    }
+}
+
+// Phase 0, a zero frequency integrator, and the lock detector at 0, unlocked.
+fn start(constellation: CostasConstellation, p: Params) -> CostasState
+    ensures { λ r. ⌜ r ≡ fresh constellation p ⌝ }
+{
+    let nco = Nco {
+        phase: 0,
+        freq: 0.0,
+    };
+    let lock = Lock {
+        level: 0.0,
+        locked: false,
+    };
+    let track = Track {
+        nco: nco,
+        lock: lock,
+    };
+    CostasState {
+        constellation: constellation,
+        params: p,
+        track: track,
+    }
+}
+
+// A fresh state, or the lowest number of what is wrong with the three values. The source's "gains must
+// be finite" has no place here: they are, of values in range (`gains-finite`).
+pub fn set_up(
+    constellation: CostasConstellation,
+    loop_bw: f64,
+    damping: f64,
+    max_offset: f64,
+) -> SetUp
+    ensures outcome { λ r. ⌜ r ≡ opened constellation «loop_bw» damping «max_offset» ⌝ }
+    ensures given { λ r. ⌜ SetUpGiven r ⌝ }
+{
+    if !timing::within(0.0001, loop_bw, 0.2) {
+        return SetUp::Refused(Refusal::Width);
+    }
+    if !timing::within(0.1, damping, 4.0) {
+        return SetUp::Refused(Refusal::Damping);
+    }
+    if !timing::within(0.0, max_offset, 0.25) {
+        return SetUp::Refused(Refusal::Pull);
+    }
+    let p = params_of(loop_bw, damping, max_offset);
+    let s = start(constellation, p);
+    SetUp::Ready(s)
+}
+
+// The state after construction: the parameters are kept.
+pub fn reset(s: CostasState) -> CostasState
+    requires { ⌜ Given s ⌝ }
+    ensures state { λ r. ⌜ r ≡ fresh (s .constellation) (s .params) ⌝ }
+    ensures given { λ r. ⌜ Given r ⌝ }
+{
+    let c = s.constellation;
+    let p = s.params;
+    start(c, p)
+}
+
+// Sets the phase, in units of 2^-32 turn.
+pub fn set_phase(s: CostasState, phase: u32) -> CostasState
+    requires { ⌜ Given s ⌝ }
+    ensures state { λ r. ⌜ r ≡ phaseSet s phase ⌝ }
+    ensures given { λ r. ⌜ Given r ⌝ }
+{
+    let c = s.constellation;
+    let p = s.params;
+    let lock = s.track.lock;
+    let nco = Nco {
+        phase: phase,
+        freq: s.track.nco.freq,
+    };
+    let track = Track {
+        nco: nco,
+        lock: lock,
+    };
+    CostasState {
+        constellation: c,
+        params: p,
+        track: track,
+    }
+}
+
+// The frequency that is taken for freq: narrowed, flushed and limited; a NaN gives 0.
+fn frequency_of(freq: f64, max: f32) -> f32
+    ensures { λ r. ⌜ r ≡ frequencyOf freq max ⌝ }
+{
+    let f = numbers::flush_denormal(numbers::narrow(freq));
+    if f != f {
+        0.0
+    } else {
+        numbers::limit_f32(f, max)
+    }
+}
+
+// Sets the frequency integrator, in cycles per symbol. The phase and the lock detector stay.
+pub fn set_frequency(s: CostasState, freq: f64) -> CostasState
+    requires { ⌜ Given s ⌝ }
+    ensures state { λ r. ⌜ r ≡ frequencySet s freq ⌝ }
+    ensures given { λ r. ⌜ Given r ⌝ }
+{
+    let c = s.constellation;
+    let p = s.params;
+    let lock = s.track.lock;
+    let f = frequency_of(freq, p.max);
+    let nco = Nco {
+        phase: s.track.nco.phase,
+        freq: f,
+    };
+    let track = Track {
+        nco: nco,
+        lock: lock,
+    };
+    CostasState {
+        constellation: c,
+        params: p,
+        track: track,
+    }
+}
+
+impl CostasState {
+    // The frequency integrator in cycles per symbol: the estimated carrier offset.
+    pub fn frequency(self) -> f64
+        ensures { λ r. ⌜ r ≡ self .track .nco .freq ⌝ }
+    {
+        numbers::widen(self.track.nco.freq)
+    }
+
+    // Whether the lock detector reports lock.
+    pub fn locked(self) -> bool
+        ensures { λ r. ⌜ r ≡ self .track .lock .locked ⌝ }
+    {
+        self.track.lock.locked
+    }
+
+    // The smoothed lock measure.
+    pub fn lock_level(self) -> f32
+        ensures { λ r. ⌜ r ≡ self .track .lock .level ⌝ }
+    {
+        self.track.lock.level
+    }
+
+    // The phase before the next symbol, in units of 2^-32 turn.
+    pub fn phase(self) -> u32
+        ensures { λ r. ⌜ r ≡ self .track .nco .phase ⌝ }
+    {
+        self.track.nco.phase
+    }
+
+    // The constellation of the detector and the lock measure.
+    pub fn constellation(self) -> CostasConstellation
+        ensures { λ r. ⌜ r ≡ self .constellation ⌝ }
+    {
+        self.constellation
+    }
+
+    // The loop bandwidth, normalized to the symbol rate.
+    pub fn loop_bw(self) -> f64
+        ensures { λ r. ⌜ r ≡ self .params .«loop_bw» ⌝ }
+    {
+        self.params.loop_bw
+    }
+
+    // The damping of the loop.
+    pub fn damping(self) -> f64
+        ensures { λ r. ⌜ r ≡ self .params .damping ⌝ }
+    {
+        self.params.damping
+    }
+
+    // The limit of the frequency integrator in cycles per symbol.
+    pub fn max_offset(self) -> f64
+        ensures { λ r. ⌜ r ≡ self .params .«max_offset» ⌝ }
+    {
+        self.params.max_offset
+    }
+}

@@ -1,0 +1,5 @@
+// The carrier loop's run, from fallback/costas.rs.
+mod symbols;
+
+pub use symbols::Ran;
+pub use symbols::run;
