@@ -1,13 +1,13 @@
--- "Turned recordings", for the carrier alone: a list of calls, each on the state that the last one left, and what it means that a second list is the first turned k times. Definitions only.
+-- "Turned recordings", for the carrier alone: a list of calls, each on the state that the last one left, and what is claimed of a second list that is the first turned k times. Definitions only.
 use mathlib.Core.Path.{_≡_}
 use Prim.Native.Nat.{ℕ, _+_, _-_, _%_}
-use mathlib.Core.Bool.{true}
-use mathlib.Core.List.{List, [], _∷_}
+use mathlib.Core.Bool.{Bool, true}
+use mathlib.Core.List.{List}
 use lib.Dec.{T}
-use lib.ListN.{length}
 use Rattle.ieee.specs.Alike.{Alike}
 use Rattle.values.specs.Samples.{samples}
 use Rattle.values.specs.Each.{Each}
+use Rattle.values.specs.Calls.{outcomesBy, afterBy}
 use Rattle.values.specs.Turn.{AllTurned}
 use Rattle.mix.specs.Quarter.{quartersOn}
 use Rattle.timing.specs.Calls.{Call}
@@ -16,15 +16,22 @@ use Rattle.carrier.specs.declared.constellation.CostasConstellation.the-
 use Rattle.carrier.specs.declared.state.CostasState.{CostasState}
 use Rattle.carrier.specs.Run.{Outcome, called, accepts}
 
--- the outcomes of a list of calls: "each call gets the receiver that the last one returned or left, a refused one too"
-unfoldable pub outcomes : CostasState → List Call → List Outcome
-outcomes s [] = []
-outcomes s (c ∷ cs) = let r = called s (c .input) (c .output) in r ∷ outcomes (r .state) cs
+-- one call, the state that it leaves, and whether it is not refused
+abbrev pub callOf : CostasState → Call → Outcome
+callOf s c = called s (c .input) (c .output)
 
--- and the state after it
-unfoldable pub after : CostasState → List Call → CostasState
-after s [] = s
-after s (c ∷ cs) = after (called s (c .input) (c .output) .state) cs
+abbrev pub leftBy : Outcome → CostasState
+leftBy r = r .state
+
+abbrev pub whole : Call → Bool
+whole c = accepts (c .input) (c .output)
+
+-- the outcomes of a list of calls, and the state after it
+abbrev pub outcomes : CostasState → List Call → List Outcome
+outcomes s cs = outcomesBy callOf leftBy s cs
+
+abbrev pub after : CostasState → List Call → CostasState
+after s cs = afterBy callOf leftBy s cs
 
 -- "k and m are 0 to 3, under BPSK with k - m even"
 abbrev pub Allowed : CostasConstellation → ℕ → ℕ → Type 0
@@ -35,12 +42,6 @@ Allowed Psk8 k m = T true
 -- "(k - m) mod 4"
 abbrev pub turnsLess : ℕ → ℕ → ℕ
 turnsLess k m = (k + (4 - m)) % 4
-
--- "the same buffer lengths and each input turned k times; where a call is refused, only lengths must agree"
-pub record TurnedCall (k : ℕ) (c d : Call) : Type 0 where
-  pub inputs : length (d .input) ≡ length (c .input)
-  pub outputs : length (d .output) ≡ length (c .output)
-  pub turned : accepts (c .input) (c .output) ≡ true → AllTurned k (samples (c .input)) (samples (d .input))
 
 -- "Equal are all numbers … answered in the list"; "each output sample" is turned j times
 pub record TurnedOutcome (j : ℕ) (q r : Outcome) : Type 0 where

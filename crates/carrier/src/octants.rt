@@ -6,40 +6,21 @@ ghost use mathlib.Core.Bool.{_&&_, cond};
 ghost use Prim.Native.Nat.{_+_, _<_};
 ghost use Rattle.carrier.specs.Octant.{sizeOf, octantOf, pointOf, decisionOf};
 
-// The points exp(j (2k + 1) pi / 8), each part rounded once to f32.
+// cos(pi / 8) and sin(pi / 8), each rounded once to f32: the parts of the 8-PSK points.
+const C8: f32 = 0.9238795;
+
+const S8: f32 = 0.38268343;
+
+// The points exp(j (2k + 1) pi / 8).
 const POINTS8: [C32; 8] = [
-    C32 {
-        re: 0.9238795,
-        im: 0.38268343,
-    },
-    C32 {
-        re: 0.38268343,
-        im: 0.9238795,
-    },
-    C32 {
-        re: -0.38268343,
-        im: 0.9238795,
-    },
-    C32 {
-        re: -0.9238795,
-        im: 0.38268343,
-    },
-    C32 {
-        re: -0.9238795,
-        im: -0.38268343,
-    },
-    C32 {
-        re: -0.38268343,
-        im: -0.9238795,
-    },
-    C32 {
-        re: 0.38268343,
-        im: -0.9238795,
-    },
-    C32 {
-        re: 0.9238795,
-        im: -0.38268343,
-    },
+    C32 { re: C8, im: S8 },
+    C32 { re: S8, im: C8 },
+    C32 { re: -S8, im: C8 },
+    C32 { re: -C8, im: S8 },
+    C32 { re: -C8, im: -S8 },
+    C32 { re: -S8, im: -C8 },
+    C32 { re: S8, im: -C8 },
+    C32 { re: C8, im: -S8 },
 ];
 
 // |x| but for a zero, which keeps its sign: what is compared is the number.

@@ -1,14 +1,15 @@
 -- "Turned recordings", for the complex timing loop alone: a list of calls, each on the state that the last one left, and what it means that a second list is the first turned k times. Definitions only.
 use mathlib.Core.Path.{_≡_}
 use Prim.Native.Nat.{ℕ}
-use mathlib.Core.Bool.{false}
-use mathlib.Core.List.{List, [], _∷_}
+use mathlib.Core.Bool.{Bool, true, not}
+use mathlib.Core.List.{List}
 use lib.ListN.{length, take}
 use lib.Ieee.{Float}
 use Rattle.ieee.specs.Alike.{Alike}
 use Rattle.values.specs.declared.sample.C32.{C32}
 use Rattle.values.specs.Samples.{samples}
 use Rattle.values.specs.Each.{Each}
+use Rattle.values.specs.Calls.{outcomesBy, afterBy}
 use Rattle.values.specs.Turn.{AllTurned}
 use Rattle.timing.specs.Clock.{nextStrobe}
 use Rattle.timing.specs.Run.{Sync, Outcome, oddEither, calledComplex}
@@ -18,21 +19,29 @@ pub record Call : Type 0 where
   pub input : List Float
   pub output : List Float
 
--- the outcomes of a list of calls: "each call gets the receiver that the last one returned or left, a refused one too"
-unfoldable pub outcomes : Sync C32 → List Call → List (Outcome C32)
-outcomes s [] = []
-outcomes s (c ∷ cs) = let r = calledComplex s (c .input) (c .output) in r ∷ outcomes (r .state) cs
+-- one call, and the state that it leaves
+abbrev pub callOf : Sync C32 → Call → Outcome C32
+callOf s c = calledComplex s (c .input) (c .output)
 
--- and the state after it
-unfoldable pub after : Sync C32 → List Call → Sync C32
-after s [] = s
-after s (c ∷ cs) = after (calledComplex s (c .input) (c .output) .state) cs
+abbrev pub leftBy : Outcome C32 → Sync C32
+leftBy r = r .state
 
--- "the same buffer lengths and each input turned k times; where a call is refused, only lengths must agree"
-pub record TurnedCall (k : ℕ) (c d : Call) : Type 0 where
+-- the outcomes of a list of calls, and the state after it
+abbrev pub outcomes : Sync C32 → List Call → List (Outcome C32)
+outcomes s cs = outcomesBy callOf leftBy s cs
+
+abbrev pub after : Sync C32 → List Call → Sync C32
+after s cs = afterBy callOf leftBy s cs
+
+-- which calls are not refused
+abbrev pub whole : Call → Bool
+whole c = not (oddEither (c .input) (c .output))
+
+-- "the same buffer lengths and each input turned k times; where a call is refused, only lengths must agree"; `taken` says which calls are not
+pub record TurnedCall (taken : Call → Bool) (k : ℕ) (c d : Call) : Type 0 where
   pub inputs : length (d .input) ≡ length (c .input)
   pub outputs : length (d .output) ≡ length (c .output)
-  pub turned : oddEither (c .input) (c .output) ≡ false → AllTurned k (samples (c .input)) (samples (d .input))
+  pub turned : taken c ≡ true → AllTurned k (samples (c .input)) (samples (d .input))
 
 -- the strobes that a call produced, where it wrote them
 abbrev pub strobes : Outcome C32 → List C32

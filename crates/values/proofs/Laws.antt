@@ -2,3 +2,4 @@
 pub mod Samples
 pub mod Each
 pub mod Turn
+pub mod Calls

@@ -1,13 +1,11 @@
--- Document 01's cases for the carrier: four phase steps, two octants, two of QPSK's measures; and the lock's rules at their ends. Assumes nothing.
+-- Document 01's cases for the carrier: two octants, two of QPSK's measures, and the lock's rules at their ends. (The phase steps are in `modulate`.) Assumes nothing.
 use mathlib.Core.Path.{_≡_, refl}
 use mathlib.Core.Bool.{Bool, true, false}
-use lib.IntN.{pos, negsuc}
-use lib.Ieee.{Float, fin, binary32, ofBits, round, add, sub, mul, div, neg, lt, le}
+use lib.Ieee.{Float, binary32, ofBits, round, add, sub, mul, div, neg, lt, le}
 use Rattle.ieee.specs.Constants.{zero₀, half₀, one₀}
 use Rattle.ieee.specs.Magnitude.{magnitude}
 use Rattle.values.specs.declared.sample.C32.{C32}
 use Rattle.values.specs.Samples.{silence}
-use Rattle.modulate.specs.Step.{phaseStep}
 use Rattle.carrier.specs.declared.constellation.CostasConstellation.the-variants.{Qpsk}
 use Rattle.carrier.specs.declared.lock.Metric.{Metric}
 use Rattle.carrier.specs.declared.lock.Metric.the-variants.{Number, Nothing}
@@ -32,14 +30,6 @@ abbrev below-three-tenths : Float
 below-three-tenths = ofBits binary32 0x3e999999
 
 pub record Cases : Type 0 where
-  -- "Phase for v = 2^-33: 1"
-  pub half-step : phaseStep (fin false 1 (negsuc 32)) ≡ 1
-  -- "-2^-33: 0"
-  pub minus-half-step : phaseStep (fin true 1 (negsuc 32)) ≡ 0
-  -- "-3 × 2^-33: 4,294,967,295"
-  pub minus-three-half-steps : phaseStep (fin true 3 (negsuc 32)) ≡ 4294967295
-  -- "2^31: 4,294,967,295"
-  pub steps-end : phaseStep (fin false 1 (pos 31)) ≡ 4294967295
   -- "8-PSK (1, 1): octant 1"
   pub octant-diagonal : octantOf diagonal ≡ 1
   -- "(0, 1): 2"
@@ -58,13 +48,9 @@ pub record Cases : Type 0 where
   pub below-three-tenths-clears : (was : Bool) → held was below-three-tenths ≡ false
 
 pub cases : Cases
-unfolding phaseStep octantOf magnitude metricOf measured qpskMeasure quad held add sub mul div neg lt le round ofBits
+unfolding octantOf magnitude metricOf measured qpskMeasure quad held add sub mul div neg lt le round ofBits
 cases =
     record {
-      half-step = refl;
-      minus-half-step = refl;
-      minus-three-half-steps = refl;
-      steps-end = refl;
       octant-diagonal = refl;
       octant-upright = refl;
       qpsk-diagonal = refl;

@@ -14,17 +14,18 @@ use Rattle.values.specs.declared.error.Refusal.the-variants.{Uneven, Odd}
 use Rattle.values.specs.Samples.{samples, parts}
 use Rattle.values.specs.Each.{Each, none, more}
 use Rattle.values.specs.Turn.{AllTurned, Turned}
+use Rattle.values.proofs.Laws.Calls.{lists-keep}
 use Rattle.values.proofs.Laws.Samples.{samples-parts}
 use Rattle.values.proofs.Laws.Turn.{turned-mod}
 use Rattle.timing.specs.Run.{oddEither}
-use Rattle.timing.specs.Calls.{Call}
+use Rattle.timing.specs.Calls.{Call, TurnedCall}
 use Rattle.carrier.specs.declared.constellation.CostasConstellation.{CostasConstellation}
 use Rattle.carrier.specs.declared.params.Params.{Params}
 use Rattle.carrier.specs.declared.state.CostasState.{CostasState}
 use Rattle.carrier.specs.Step.{Symbols}
 use Rattle.carrier.specs.State.{fresh, phaseSet}
 use Rattle.carrier.specs.Run.{Outcome, turnedAway, symbols, done, called}
-use Rattle.carrier.specs.Calls.{outcomes, after, Allowed, turnsLess, TurnedCall, TurnedOutcome, SameCarrier, TurnedList}
+use Rattle.carrier.specs.Calls.{callOf, leftBy, whole, Allowed, turnsLess, TurnedOutcome, SameCarrier, TurnedList}
 use Rattle.carrier.proofs.Laws.TurnedRun.{Tied, TiedSymbols, tied-runs}
 
 -- a call keeps the constellation
@@ -78,7 +79,7 @@ module _ (k m : ℕ) (small : m ≤ 3) where
   abbrev calledBy : Bool → Bool → CostasState → Call → Outcome
   calledBy odd even s c = cond odd (turnedAway Odd s (c .output)) (cond even (done s (c .input)) (turnedAway Uneven s (c .output)))
 
-  tied-call : {s t : CostasState} {c d : Call} → Allowed (s .constellation) k m → TiedState m s t → TurnedCall k c d → TiedOutcome k m (called s (c .input) (c .output)) (called t (d .input) (d .output))
+  tied-call : {s t : CostasState} {c d : Call} → Allowed (s .constellation) k m → TiedState m s t → TurnedCall whole k c d → TiedOutcome k m (called s (c .input) (c .output)) (called t (d .input) (d .output))
   unfolding called
   tied-call {s} {t} {c} {d} a h r =
       let odd = ap₂ (λ (i o : ℕ). eqb (i % 2) 1 || eqb (o % 2) 1) (r .inputs) (r .outputs) in
@@ -92,15 +93,19 @@ module _ (k m : ℕ) (small : m ≤ 3) where
       by false true f = tied-done (c .input) (d .input) a h (f refl)
       by false false f = record { answer = record { number = refl; turned = λ z. absurd (omega arith) }; state = h }
 
-  -- ---- a list of calls
-  turned-from : {cs ds : List Call} (s t : CostasState) → Allowed (s .constellation) k m → TiedState m s t → Each (TurnedCall k) cs ds → TurnedList k m s t cs ds
-  unfolding outcomes after
-  turned-from s t a h none = record { answers = none; carriers = same-carrier h }
-  turned-from s t a h (more {a = c} r rs) =
-      let o = tied-call a h r in
-      let q = turned-from _ _ (subst (λ (x : CostasConstellation). Allowed x k m) (sym (called-constellation s (c .input) (c .output))) a) (o .state) rs in
-      record { answers = more (o .answer) (q .answers); carriers = q .carriers }
+-- ---- a list of calls
+-- what a call keeps: the states stay tied, and the constellation is one that the turns are allowed for
+record TiedFor (k m : ℕ) (s t : CostasState) : Type 0 where
+  allowed : Allowed (s .constellation) k m
+  tied : TiedState m s t
+
+keeps : (k m : ℕ) → m ≤ 3 → (s t : CostasState) (c d : Call) → TiedFor k m s t → TurnedCall whole k c d → TurnedOutcome (turnsLess k m) (callOf s c) (callOf t d) × TiedFor k m (leftBy (callOf s c)) (leftBy (callOf t d))
+keeps k m h s t c d r q =
+    let o = tied-call k m h (r .allowed) (r .tied) q in
+    (o .answer, record { allowed = subst (λ (x : CostasConstellation). Allowed x k m) (sym (called-constellation s (c .input) (c .output))) (r .allowed); tied = o .state })
 
 -- from states just set up or just reset, the second with its phase set to m × 2^30
-pub turned-calls : (c : CostasConstellation) (p : Params) (k m : ℕ) → m ≤ 3 → Allowed c k m → (cs ds : List Call) → Each (TurnedCall k) cs ds → TurnedList k m (fresh c p) (phaseSet (fresh c p) (m * 2 ^ 30)) cs ds
-turned-calls c p k m h a cs ds r = turned-from k m h (fresh c p) (phaseSet (fresh c p) (m * 2 ^ 30)) a (tied-fresh c p m h) r
+pub turned-calls : (c : CostasConstellation) (p : Params) (k m : ℕ) → m ≤ 3 → Allowed c k m → (cs ds : List Call) → Each (TurnedCall whole k) cs ds → TurnedList k m (fresh c p) (phaseSet (fresh c p) (m * 2 ^ 30)) cs ds
+turned-calls c p k m h a cs ds r =
+    let q = lists-keep callOf leftBy (keeps k m h) (record { allowed = a; tied = tied-fresh c p m h }) r in
+    record { answers = q .0; carriers = same-carrier (q .1 .tied) }

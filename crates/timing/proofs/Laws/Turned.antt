@@ -1,9 +1,9 @@
 -- Document 01's claim on turned recordings, for the complex timing loop: turned inputs give the same numbers, counts and clock, and turned strobes, over a list of calls of any length. Assumes nothing.
 use mathlib.Core.Path.{_≡_, refl, sym, ap, ap₂, _∙_, subst}
-use Prim.Native.Nat.{ℕ, suc, _/_, _%_}
+use Prim.Native.Nat.{ℕ, _/_, _%_}
 use native.Mathlib.Omega.{arith}
-use mathlib.Core.Bool.{Bool, true, false, _||_, cond}
-use mathlib.Core.List.{List, [], _∷_, _++_}
+use mathlib.Core.Bool.{Bool, true, false, not, _||_, cond}
+use mathlib.Core.List.{List, _++_}
 use lib.Dec.{eqb}
 use lib.ListN.{length, take, drop}
 use lib.Seq.{take-append-seam}
@@ -11,15 +11,16 @@ use lib.Ieee.{Float}
 use Rattle.values.specs.declared.sample.C32.{C32}
 use Rattle.values.specs.declared.error.Refusal.the-variants.{Odd}
 use Rattle.values.specs.Samples.{samples, parts}
-use Rattle.values.specs.Each.{Each, none, more}
+use Rattle.values.specs.Each.{Each, none}
 use Rattle.values.specs.Turn.{turnsAll, AllTurned}
 use Rattle.values.proofs.Laws.Each.{each-length}
+use Rattle.values.proofs.Laws.Calls.{lists-keep}
 use Rattle.values.proofs.Laws.Samples.{length-samples, length-parts, samples-parts, samples-append}
 use Rattle.values.proofs.Laws.Turn.{turnsAll-turned}
 use Rattle.timing.specs.declared.params.Params.{Params}
 use Rattle.timing.specs.Sample.{complex}
 use Rattle.timing.specs.Run.{Sync, fresh, Ran, Outcome, done, turnedAway, oddEither, doneComplex, calledComplex}
-use Rattle.timing.specs.Calls.{Call, outcomes, after, TurnedCall, strobes, TurnedOutcome, SameClock, TurnedList}
+use Rattle.timing.specs.Calls.{Call, callOf, leftBy, whole, TurnedCall, strobes, TurnedOutcome, SameClock, TurnedList}
 use Rattle.timing.proofs.Laws.Alike.{alike-instant}
 use Rattle.timing.proofs.Laws.TurnedRun.{TiedSync, tied-fresh, TiedRan, tied-ran}
 
@@ -46,14 +47,14 @@ tied-done k {q} {r} ys zs h = record {
 abbrev calledBy : Bool → Sync C32 → Call → Outcome C32
 calledBy odd s c = cond odd (turnedAway Odd s (c .output)) (doneComplex s (c .input) (c .output))
 
-tied-call : (k : ℕ) {s t : Sync C32} {c d : Call} → TiedSync k s t → TurnedCall k c d → TiedOutcome k (calledComplex s (c .input) (c .output)) (calledComplex t (d .input) (d .output))
+tied-call : (k : ℕ) {s t : Sync C32} {c d : Call} → TiedSync k s t → TurnedCall whole k c d → TiedOutcome k (calledComplex s (c .input) (c .output)) (calledComplex t (d .input) (d .output))
 unfolding calledComplex
 tied-call k {s} {t} {c} {d} h r = subst (λ (b : Bool). TiedOutcome k (calledBy (oddEither (c .input) (c .output)) s c) (calledBy b t d)) (sym odd) (by (oddEither (c .input) (c .output)) (r .turned))
   where
     odd : oddEither (d .input) (d .output) ≡ oddEither (c .input) (c .output)
     odd = ap₂ (λ (m n : ℕ). eqb (m % 2) 1 || eqb (n % 2) 1) (r .inputs) (r .outputs)
 
-    by : (b : Bool) → (b ≡ false → AllTurned k (samples (c .input)) (samples (d .input))) → TiedOutcome k (calledBy b s c) (calledBy b t d)
+    by : (b : Bool) → (not b ≡ true → AllTurned k (samples (c .input)) (samples (d .input))) → TiedOutcome k (calledBy b s c) (calledBy b t d)
     by true f = record { answer = record { number = refl; consumed = refl; produced = refl; turned = none }; state = h }
     by false f = tied-done k (c .output) (d .output) (rw (r .outputs) (tied-ran k (length (c .output) / 2) h (f refl)))
 
@@ -61,31 +62,15 @@ tied-call k {s} {t} {c} {d} h r = subst (λ (b : Bool). TiedOutcome k (calledBy 
 pub same-clock : {k : ℕ} {s t : Sync C32} → TiedSync k s t → SameClock s t
 same-clock h = record { instant = alike-instant (h .track .clock); pace = h .track .clock .spacing }
 
-turned-from : (k : ℕ) {cs ds : List Call} (s t : Sync C32) → TiedSync k s t → Each (TurnedCall k) cs ds → TurnedList k s t cs ds
-unfolding outcomes after
-turned-from k s t h none = record { answers = none; clocks = same-clock h }
-turned-from k s t h (more r rs) =
-    let o = tied-call k h r in
-    let q = turned-from k _ _ (o .state) rs in
-    record { answers = more (o .answer) (q .answers); clocks = q .clocks }
-
 -- from a state just set up or just reset
-pub turned-calls : (k : ℕ) (p : Params) (cs ds : List Call) → Each (TurnedCall k) cs ds → TurnedList k (fresh complex p) (fresh complex p) cs ds
-turned-calls k p cs ds r = turned-from k (fresh complex p) (fresh complex p) (tied-fresh k p) r
+pub turned-calls : (k : ℕ) (p : Params) (cs ds : List Call) → Each (TurnedCall whole k) cs ds → TurnedList k (fresh complex p) (fresh complex p) cs ds
+turned-calls k p cs ds r =
+    let q = lists-keep callOf leftBy (λ (s t : Sync C32) (c d : Call) (h : TiedSync k s t) (q : TurnedCall whole k c d). let o = tied-call k h q in (o .answer, o .state)) (tied-fresh k p) r in
+    record { answers = q .0; clocks = same-clock (q .1) }
 
--- ---- what the claim is about: an outcome for each call, on the state that the calls before it left; and each call on whole samples can be turned
-pub outcomes-length : (s : Sync C32) (cs : List Call) → length (outcomes s cs) ≡ length cs
-unfolding outcomes
-outcomes-length s [] = refl
-outcomes-length s (c ∷ cs) = ap suc (outcomes-length (calledComplex s (c .input) (c .output) .state) cs)
-
-pub outcomes-append : (s : Sync C32) (cs ds : List Call) → outcomes s (cs ++ ds) ≡ outcomes s cs ++ outcomes (after s cs) ds
-unfolding outcomes after
-outcomes-append s [] ds = refl
-outcomes-append s (c ∷ cs) ds = let r = calledComplex s (c .input) (c .output) in ap (λ (l : List (Outcome C32)). r ∷ l) (outcomes-append (r .state) cs ds)
-
-pub turned-exactly : (k : ℕ) (c : Call) → length (c .input) % 2 ≡ 0 → TurnedCall k c (record { input = parts (turnsAll k (samples (c .input))); output = c .output })
-turned-exactly k c h =
+-- each call on whole samples can be turned
+pub turned-exactly : (taken : Call → Bool) (k : ℕ) (c : Call) → length (c .input) % 2 ≡ 0 → TurnedCall taken k c (record { input = parts (turnsAll k (samples (c .input))); output = c .output })
+turned-exactly taken k c h =
     let xs = samples (c .input) in
     let n = each-length (turnsAll-turned k xs) in
     record {
