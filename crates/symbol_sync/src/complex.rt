@@ -129,17 +129,6 @@ pub fn reset(s: SymbolSyncState) -> SymbolSyncState
 
 // ---- Windows
 
-// Sample k of the input.
-fn read(input: &[f32], k: usize) -> C32
-    requires { ⌜ k < length (now input) / 2 ⌝ }
-    ensures { λ r. ⌜ r ≡ getD (samples (now (input .entry))) k (complex .zero) ⌝ }
-{
-    C32 {
-        re: input[2 * k],
-        im: input[2 * k + 1],
-    }
-}
-
 // Sample j of the history followed by the input.
 fn at(h: Hist, input: &[f32], j: usize) -> C32
     requires { ⌜ j < length (now input) / 2 + 3 ⌝ }
@@ -154,7 +143,7 @@ fn at(h: Hist, input: &[f32], j: usize) -> C32
     if j == 2 {
         return h.c;
     }
-    read(input, j - 3)
+    values::sample_at(input, j - 3)
 }
 
 // The window of the position with integer part i: samples i - 1 to i + 2. Past the history it is read
@@ -170,10 +159,10 @@ fn window(h: Hist, input: &[f32], i: usize) -> [C32; 4]
         let d = at(h, input, i + 2);
         [a, b, c, d]
     } else {
-        let a = read(input, i - 4);
-        let b = read(input, i - 3);
-        let c = read(input, i - 2);
-        let d = read(input, i - 1);
+        let a = values::sample_at(input, i - 4);
+        let b = values::sample_at(input, i - 3);
+        let c = values::sample_at(input, i - 2);
+        let d = values::sample_at(input, i - 1);
         [a, b, c, d]
     }
 }
@@ -251,15 +240,6 @@ fn strobe(p: Params, s: Track, y: C32) -> Track
 
 // ---- A run
 
-// Stores y as sample k of the output.
-fn write(output: &mut [f32], k: usize, y: C32)
-    requires { ⌜ k < length (now output) / 2 ⌝ }
-    ensures { λ _. ⌜ now (output .exit) ≡ sets (now (output .entry)) (2 * k) (y .re ∷ y .im ∷ []) ⌝ }
-{
-    output[2 * k] = y.re;
-    output[2 * k + 1] = y.im;
-}
-
 // What the loop has come to.
 pub struct Strobed {
     pub track: Track,
@@ -286,7 +266,7 @@ fn strobes(p: Params, h: Hist, s: Track, input: &[f32], output: &mut [f32]) -> S
         }
         let y = value_at(h, input, i, t.clock.mu);
         t = strobe(p, t, y);
-        write(output, produced, y);
+        values::store_sample(output, produced, y);
         produced += 1;
     }
     Strobed {

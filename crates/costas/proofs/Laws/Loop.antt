@@ -3,7 +3,6 @@ use mathlib.Core.Path.{_≡_, refl, sym, ap, _∙_, subst}
 use Prim.Native.Nat.{ℕ, suc, _+_, _*_, _/_, _%_, _^_, _≤_, _<_}
 use native.Mathlib.Numerals.{add-one}
 use native.Mathlib.Omega.{arith}
-use borrow.Author.Tests.{lt-ltb}
 use mathlib.Core.Bool.{Bool, true, false, cond}
 use mathlib.Core.List.{List, [], _∷_, _++_, append-nil}
 use lib.Dec.{ltb}
@@ -12,7 +11,7 @@ use lib.Seq.{sets, sets-eq, length-sets, drop-cons}
 use lib.Ieee.{Float}
 use Rattle.values.specs.declared.sample.C32.{C32}
 use Rattle.values.specs.Samples.{silence, samples, parts, stored}
-use Rattle.values.proofs.Laws.Samples.{length-samples, length-parts}
+use Rattle.values.proofs.Laws.Samples.{length-samples, length-parts, stored-sets}
 use Rattle.timing.proofs.Laws.Shown.{parts-none, parts-some}
 use Rattle.carrier.specs.declared.constellation.CostasConstellation.{CostasConstellation}
 use Rattle.carrier.specs.declared.params.Params.{Params}
@@ -46,8 +45,9 @@ shown ys k r = sets ys (2 * k) (parts (r .values))
 shown-more : (ys : List Float) (k : ℕ) (y : C32) (r : Symbols) → k < length ys / 2 → shown ys k (more y r) ≡ shown (stored ys k y) (k + 1) r
 shown-more ys k y r h =
     let e : suc (suc (2 * k)) ≡ 2 * (k + 1) = omega arith in
-    let two = sets ys (2 * k) (y .re ∷ y .im ∷ []) in
-    ap (sets ys (2 * k)) (parts-some y (r .values)) ∙ ap (λ (i : ℕ). sets two i (parts (r .values))) e ∙ ap (λ (b : Bool). sets (cond b two ys) (2 * (k + 1)) (parts (r .values))) (sym (lt-ltb k (length ys / 2) h))
+    ap (sets ys (2 * k)) (parts-some y (r .values))
+    ∙ ap (λ (i : ℕ). sets (sets ys (2 * k) (y .re ∷ y .im ∷ [])) i (parts (r .values))) e
+    ∙ ap (λ (l : List Float). sets l (2 * (k + 1)) (parts (r .values))) (sym (stored-sets ys k y h))
 
 stored-length : (ys : List Float) (k : ℕ) (y : C32) → length (stored ys k y) ≡ length ys
 stored-length ys k y = by (ltb k (length ys / 2))

@@ -1,11 +1,12 @@
 -- The samples of a slice: how many there are, the one at an index, a part of the slice, one stored; and the way back. Assumes nothing.
-use mathlib.Core.Path.{_≡_, refl, sym, ap}
+use mathlib.Core.Path.{_≡_, refl, sym, ap, _∙_}
 use mathlib.Core.List.{List, [], _∷_, _++_}
 use Prim.Native.Nat.{ℕ, zero, suc, _+_, _*_, _/_, _%_, _<_, _≤_}
 use native.Mathlib.Numerals.{add-one}
 use native.Mathlib.Omega.{arith}
 use borrow.Author.Tests.{lt-ltb, le-ltb}
 use lib.ListN.{List·getD-eq-default, length, getD, take, drop, set}
+use lib.Seq.{sets}
 use lib.Ieee.{Float}
 use Rattle.values.specs.declared.sample.C32.{C32}
 use Rattle.values.specs.Samples.{samples, parts, stored}
@@ -85,8 +86,11 @@ samples-append (x ∷ []) ys h = absurd (omega arith)
 samples-append (x ∷ y ∷ l) ys h = ap (λ (m : List C32). record { re = x; im = y } ∷ m) (samples-append l ys (omega arith))
 
 -- ---- a sample is stored
+pub stored-sets : (ys : List Float) (k : ℕ) (y : C32) → k < length ys / 2 → stored ys k y ≡ sets ys (2 * k) (y .re ∷ y .im ∷ [])
+stored-sets ys k y h = rw (lt-ltb k (length ys / 2) h)
+
 pub stored-in : (ys : List Float) (k : ℕ) (y : C32) → k < length ys / 2 → stored ys k y ≡ set (set ys (2 * k) (y .re)) (2 * k + 1) (y .im)
-stored-in ys k y h = rw (lt-ltb k (length ys / 2) h) (ap (λ (i : ℕ). set (set ys (2 * k) (y .re)) i (y .im)) (sym (add-one (2 * k))))
+stored-in ys k y h = stored-sets ys k y h ∙ ap (λ (i : ℕ). set (set ys (2 * k) (y .re)) i (y .im)) (sym (add-one (2 * k)))
 
 pub stored-past : (ys : List Float) (k : ℕ) (y : C32) → length ys / 2 ≤ k → stored ys k y ≡ ys
 stored-past ys k y h = rw (le-ltb k (length ys / 2) h)

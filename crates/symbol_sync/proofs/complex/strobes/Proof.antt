@@ -1,8 +1,9 @@
 -- `strobes` meets its contract. The invariant: what the definition shows from here is what it shows from the start. Assumes nothing.
+use mathlib.Core.Path.{_∙_}
 use Prim.Native.Nat.{_-_}
 use native.Mathlib.Omega.{arith}
 use borrow.Author.Needs.{needs}
-use Rattle.values.proofs.Laws.Samples.{length-samples}
+use Rattle.values.proofs.Laws.Samples.{length-samples, stored-sets}
 use Rattle.timing.specs.Sample.{complex}
 use Rattle.symbol_sync.specs.Complex.{track, line}
 use Rattle.timing.proofs.Laws.Shown.{twofold, Underway, begins, turn-window, turn-able, goes-on, ends-full, ends-stopped}
@@ -37,8 +38,8 @@ strobe-requires c κs =
     let t = c .before in
     turn-able (t .before .before .before .before .before .loop .inv) (t .before .before .before .take-mid .ensures) (t .before .before .lacks .ensures) (t .before .can-strobe .ensures) (t .if1 .left)
 
-write-requires : tie.Need-write-requires Inv-loop μ-loop
-write-requires c κs = omega arith
+store-sample-requires : tie.Need-store-sample-requires Inv-loop μ-loop
+store-sample-requires c κs = search needs
 
 add-produced : tie.Need-add-produced Inv-loop μ-loop
 add-produced c = omega arith
@@ -49,8 +50,10 @@ loop-less c = omega arith
 loop-again : tie.Need-loop-again Inv-loop μ-loop
 loop-again c =
     let t = c .before .before .before .before .before .before in
-    goes-on (t .before .before .before .before .before .loop .inv) (t .before .before .before .take-mid .ensures) (t .before .before .lacks .ensures) (t .before .can-strobe .ensures) (t .before .before .before .before .loop-test .taken) (t .if1 .left)
-    (c .before .before .before .before .before .value-at .ensures) (c .before .before .before .before .strobe .ensures) (c .before .before .write .ensures)
+    let l = t .before .before .before .before .before .loop in
+    let stored = c .before .before .store-sample .ensures ∙ stored-sets (l .output) (l .produced) _ (let r = l .inv .room in let e = l .inv .same in omega arith) in
+    goes-on (l .inv) (t .before .before .before .take-mid .ensures) (t .before .before .lacks .ensures) (t .before .can-strobe .ensures) (t .before .before .before .before .loop-test .taken) (t .if1 .left)
+    (c .before .before .before .before .before .value-at .ensures) (c .before .before .before .before .strobe .ensures) stored
 
 same-length : tie.Need-same-length Inv-loop μ-loop
 same-length c = c .before .loop .inv .same
@@ -76,7 +79,7 @@ strobes-spec =
     can-strobe-requires
     value-at-requires
     strobe-requires
-    write-requires
+    store-sample-requires
     add-produced
     loop-less
     loop-again

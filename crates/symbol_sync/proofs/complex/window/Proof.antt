@@ -3,6 +3,7 @@ use mathlib.Core.Path.{_∙_}
 use mathlib.Core.List.{[], _∷_}
 use Prim.Native.Nat.{_+_, _-_}
 use native.Mathlib.Omega.{arith}
+use lib.Ieee.{ofBits}
 use Rattle.values.specs.Samples.{samples}
 use Rattle.timing.specs.Sample.{complex}
 use Rattle.symbol_sync.specs.Complex.{hist}
@@ -32,39 +33,40 @@ add-at-2 c = search needs
 at-requires-4 : tie.Need-at-requires-4
 at-requires-4 c κs = search needs
 
-read-requires : tie.Need-read-requires
-read-requires c κs = search needs
+sample-at-requires : tie.Need-sample-at-requires
+sample-at-requires c κs = search needs
 
-sub-read : tie.Need-sub-read
-sub-read c = search needs
+sub-sample-at : tie.Need-sub-sample-at
+sub-sample-at c = search needs
 
-read-requires-2 : tie.Need-read-requires-2
-read-requires-2 c κs = search needs
+sample-at-requires-2 : tie.Need-sample-at-requires-2
+sample-at-requires-2 c κs = search needs
 
-sub-read-2 : tie.Need-sub-read-2
-sub-read-2 c = search needs
+sub-sample-at-2 : tie.Need-sub-sample-at-2
+sub-sample-at-2 c = search needs
 
-read-requires-3 : tie.Need-read-requires-3
-read-requires-3 c κs = search needs
+sample-at-requires-3 : tie.Need-sample-at-requires-3
+sample-at-requires-3 c κs = search needs
 
-sub-read-3 : tie.Need-sub-read-3
-sub-read-3 c = search needs
+sub-sample-at-3 : tie.Need-sub-sample-at-3
+sub-sample-at-3 c = search needs
 
-read-requires-4 : tie.Need-read-requires-4
-read-requires-4 c κs = search needs
+sample-at-requires-4 : tie.Need-sample-at-requires-4
+sample-at-requires-4 c κs = search needs
 
 returns : tie.Need-returns
 returns c = search needs
 
 returns-2 : tie.Need-returns-2
+unfolding ofBits
 returns-2 c =
     let a = c .before .before .before .before .before .before .args in
     let i = a .i in
     let past = past-history (hist (a .h)) (samples (a .input .now)) (complex .zero) in
-    let w = c .before .before .before .read .ensures ∙ past (i - 1) (i - 4) (omega arith) in
-    let x = c .before .before .read2 .ensures ∙ past i (i - 3) (omega arith) in
-    let y = c .before .read3 .ensures ∙ past (i + 1) (i - 2) (omega arith) in
-    let z = c .read4 .ensures ∙ past (i + 2) (i - 1) (omega arith) in
+    let w = c .before .before .before .sample-at .ensures ∙ past (i - 1) (i - 4) (omega arith) in
+    let x = c .before .before .sample-at2 .ensures ∙ past i (i - 3) (omega arith) in
+    let y = c .before .sample-at3 .ensures ∙ past (i + 1) (i - 2) (omega arith) in
+    let z = c .sample-at4 .ensures ∙ past (i + 2) (i - 1) (omega arith) in
     λ j. w j ∷ x j ∷ y j ∷ z j ∷ []
 
 pub window-spec : {M : Type 1} → statement M
@@ -78,12 +80,12 @@ window-spec =
     at-requires-3
     add-at-2
     at-requires-4
-    read-requires
-    sub-read
-    read-requires-2
-    sub-read-2
-    read-requires-3
-    sub-read-3
-    read-requires-4
+    sample-at-requires
+    sub-sample-at
+    sample-at-requires-2
+    sub-sample-at-2
+    sample-at-requires-3
+    sub-sample-at-3
+    sample-at-requires-4
     returns
     returns-2)
