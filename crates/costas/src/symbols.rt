@@ -17,8 +17,7 @@ ghost use Rattle.carrier.specs.Run.{called};
 ghost use Rattle.costas.specs.Answered.{answered};
 
 // The symbols of the input, turned back by the loop. The table is taken once a run and lent: each
-// mention of it would be stored anew. The output is stored last, so that the compiler keeps the parts of
-// a sample apart and the chain from symbol to symbol short.
+// mention of it would be stored anew.
 fn symbols(
     constellation: CostasConstellation,
     p: Params,
@@ -39,8 +38,8 @@ fn symbols(
         let x = values::sample_at(input, k);
         let q = mix::interp_f32_pair(&table, s.nco.phase);
         let y = carrier::derotate(x, q);
-        s = carrier::step(constellation, p, s, y);
         values::store_sample(output, k, y);
+        s = carrier::step(constellation, p, s, y);
         k += 1;
     }
     s

@@ -182,9 +182,6 @@ le-is x y = refl
 pub like-le : {x x' y y' : Float} → Like false x x' → Like false y y' → le x y ≡ le x' y'
 like-le {x} {x'} {y} {y'} p q = rw (le-is x y, le-is x' y', like-lt p q, like-eq p q)
 
-pub like-ge : {x x' y y' : Float} → Like true x x' → Like true y y' → le x y ≡ le y' x'
-like-ge {x} {x'} {y} {y'} p q = rw (le-is x y, le-is y' x', like-gt p q, like-eq p q, eq-swap x' y')
-
 pub like-ne : {s : Bool} {x x' y y' : Float} → Like s x x' → Like s y y' → ne x y ≡ ne x' y'
 unfolding ne
 like-ne p q = ap not (like-eq p q)

@@ -1,9 +1,9 @@
--- Where nothing is lost: a fraction that the format holds is its own rounding, and so are the half and the double of a value that is not too small or too large.
+-- Where nothing is lost: a fraction that the format holds is its own rounding, and so is the half of a value that is not too small, and 1 × x.
 -- Assumes nothing.
 use mathlib.Core.Path.{_≡_, refl, sym, ap, _∙_, subst}
 use mathlib.Core.Logic.{_⊎_, inl, inr}
 use Prim.Native.Nat.{ℕ, zero, suc, _+_, _-_, _*_, _^_, _≤_, _<_}
-use native.Mathlib.Nat.{sub-zero, zero-mul, eq-of-mul-eq-mul-right, zero-lt-suc, add-mul, mul-one, one-mul, mul-zero, mul-suc, add-zero, zero-add, mul-assoc, mul-right-comm, mul-pos, pow-suc, pow-succ', mul-lt-mul-of-pos-right, lt-of-mul-lt-mul-right, lt-of-lt-of-le, le-trans, le-of-eq}
+use native.Mathlib.Nat.{sub-zero, zero-mul, eq-of-mul-eq-mul-right, zero-lt-suc, add-mul, mul-one, one-mul, mul-zero, mul-suc, add-zero, zero-add, mul-assoc, mul-right-comm, mul-pos, pow-suc, mul-lt-mul-of-pos-right, lt-of-mul-lt-mul-right, lt-of-lt-of-le, le-trans, le-of-eq}
 use native.Mathlib.Omega.{arith}
 use mathlib.Core.Bool.{Bool, true, false, Bool·not-not}
 use lib.IntN.{ℤ, pos, negsuc}
@@ -16,7 +16,7 @@ use lib.Ieee.Exact.{HasValue, round-exact}
 use lib.Ieee.Bits.{is-false}
 use lib.Ieee.Scale.{finite, round-same}
 use lib.Ieee.Positive.{den, den-pos}
-use Rattle.ieee.specs.Constants.{zero₀, half₀, one₀, two₀}
+use Rattle.ieee.specs.Constants.{zero₀, half₀, one₀}
 use Rattle.ieee.specs.Alike.{Alike}
 use Rattle.ieee.specs.Fraction.{plus, less}
 use Rattle.ieee.proofs.Round.{round-zero}
@@ -154,16 +154,11 @@ zero-minus f (fin false m e) n v =
     let z : m * up e * 1 ≡ 0 = let k = v .1 in omega arith in
     rw (add-fin f false true 0 m (pos 0) e, z) (none-off f false _ _ ∙ round-same f false (0 * 1 * down e) (1 * down e) n 1 (mul-pos (zero-lt-suc 0) d) (zero-lt-suc 0) (let k = v .1 in omega arith))
 
--- ---- the half and the double of m * 2 ^ e
+-- ---- the half of m * 2 ^ e
 lower : ℤ → ℤ
 lower (pos zero) = negsuc zero
 lower (pos (suc k)) = pos k
 lower (negsuc k) = negsuc (suc k)
-
-raise : ℤ → ℤ
-raise (pos k) = pos (suc k)
-raise (negsuc zero) = pos zero
-raise (negsuc (suc k)) = negsuc k
 
 lower-half : (e : ℤ) → up (lower e) * (down e * 2) ≡ up e * down (lower e)
 unfolding lower
@@ -171,25 +166,13 @@ lower-half (pos zero) = refl
 lower-half (pos (suc k)) = sym (pow-suc 2 k) ∙ sym (mul-one (2 ^ suc k))
 lower-half (negsuc k) = ap (λ (z : ℕ). 1 * z) (sym (pow-suc 2 (suc k)))
 
-raise-double : (e : ℤ) → up (raise e) * down e ≡ up e * 2 * down (raise e)
-unfolding raise
-raise-double (pos k) = ap (λ (z : ℕ). z * 1) (pow-suc 2 k)
-raise-double (negsuc zero) = refl
-raise-double (negsuc (suc k)) = one-mul (2 ^ suc (suc k)) ∙ pow-succ' 2 (suc k)
-
 lower-down : (f : Format) (e : ℤ) → down e * 2 ≤ 2 ^ low f → down (lower e) ≤ 2 ^ low f
 unfolding lower
 lower-down f (pos zero) h = h
 lower-down f (pos (suc k)) h = omega arith
 lower-down f (negsuc k) h = le-trans (le-of-eq (pow-suc 2 (suc k))) h
 
-raise-down : (e : ℤ) (l : ℕ) → down e ≤ l → down (raise e) ≤ l
-unfolding raise
-raise-down (pos k) l h = h
-raise-down (negsuc zero) l h = omega arith
-raise-down (negsuc (suc k)) l h = let g : 2 ^ suc (suc k) ≡ 2 * 2 ^ suc k = pow-succ' 2 (suc k) in omega arith
-
--- A / L is a half of B / D, or its double, and stays below E
+-- A / L is a half of B / D, and stays below E
 under : (A L B D E k : ℕ) → 0 < D → 0 < L → A * (D * k) ≡ B * L → B < E * D → 0 < k → A < E * L
 under A L B D E k P Q h g K =
     let x : B * L < E * D * L = mul-lt-mul-of-pos-right g Q in
@@ -207,13 +190,6 @@ half-grid f s m e t h =
     exact-same f (m * up (lower e)) (down (lower e)) (m * up e) (down e * 2) (down-pos (lower e)) (mul-pos (down-pos e) (zero-lt-suc 1)) g
     (λ u. on-grid f u m (lower e) (k .0) (lower-down f e h) (under (m * up (lower e)) (down (lower e)) (m * up e) (down e) (2 ^ suc (emax f)) 2 (down-pos e) (down-pos (lower e)) g (k .2) (zero-lt-suc 1)))
 
-double-grid : (f : Format) (s : Bool) (m : ℕ) (e : ℤ) → T (fits f (fin s m e)) → m * up e * 2 < 2 ^ suc (emax f) * down e → Exact f (m * up e * 2) (down e)
-double-grid f s m e t h =
-    let k = fits-parts f s m e t in
-    let g : m * up (raise e) * down e ≡ m * up e * 2 * down (raise e) = mul-assoc m (up (raise e)) (down e) ∙ ap (λ (z : ℕ). m * z) (raise-double e) ∙ simp mul-assoc in
-    exact-same f (m * up (raise e)) (down (raise e)) (m * up e * 2) (down e) (down-pos (raise e)) (down-pos e) g
-    (λ u. on-grid f u m (raise e) (k .0) (raise-down e (2 ^ low f) (k .1)) (under (m * up (raise e)) (down (raise e)) (m * up e * 2) (down e) (2 ^ suc (emax f)) 1 (down-pos e) (down-pos (raise e)) (ap (λ (z : ℕ). m * up (raise e) * z) (mul-one (down e)) ∙ g) h (zero-lt-suc 0)))
-
 half-rounds : (f : Format) (x : Float) → T (finite x) → Rounds f (mul f x half₀) (plus x) (less x) (den x * 2)
 half-rounds f x p =
     let C = mul-pos (den-pos x) (zero-lt-suc 1) in
@@ -229,22 +205,3 @@ half-exact f x p t h = rounds-one-sided f (mul f x half₀) (plus x) (less x) (d
     go : (x : Float) → T (finite x) → T (fits f x) → den x * 2 ≤ 2 ^ low f → Exact f (plus x + less x) (den x * 2)
     go (fin true m e) p t h = rw (zero-add (m * up e)) (half-grid f true m e t h)
     go (fin false m e) p t h = rw (add-zero (m * up e)) (half-grid f false m e t h)
-
-double-rounds : (f : Format) (x : Float) → T (finite x) → Rounds f (mul f x two₀) (plus x * 2) (less x * 2) (den x)
-double-rounds f x p =
-    rounds-same f (mul f x two₀) _ _ _ (plus x * 2) (less x * 2) (den x) (mul-pos (den-pos x) (zero-lt-suc 0)) (den-pos x) (flat (plus x) (less x) (den x)) (mul-rounds f x two₀ p tt)
-  where
-    flat : (P N c : ℕ) → (P * 2 + N * 0) * c + N * 2 * (c * 1) ≡ P * 2 * (c * 1) + (P * 0 + N * 2) * c
-    flat P N c = simp (mul-one, mul-zero, add-zero, zero-add)
-
--- 2 * x is exact where it does not overflow
-pub double-exact : (f : Format) (x : Float) → T (finite x) → T (fits f x) → (plus x + less x) * 2 < 2 ^ suc (emax f) * den x → Val (mul f x two₀) (plus x * 2) (less x * 2) (den x)
-double-exact f x p t h = rounds-one-sided f (mul f x two₀) (plus x * 2) (less x * 2) (den x) (twice (one-part x)) (go x p t h) (double-rounds f x p)
-  where
-    twice : {a b : ℕ} → (a ≡ 0) ⊎ (b ≡ 0) → (a * 2 ≡ 0) ⊎ (b * 2 ≡ 0)
-    twice (inl e) = inl (omega arith)
-    twice (inr e) = inr (omega arith)
-
-    go : (x : Float) → T (finite x) → T (fits f x) → (plus x + less x) * 2 < 2 ^ suc (emax f) * den x → Exact f (plus x * 2 + less x * 2) (den x)
-    go (fin true m e) p t h = rw (zero-add (m * up e * 2)) (double-grid f true m e t (omega arith))
-    go (fin false m e) p t h = rw (add-zero (m * up e * 2)) (double-grid f false m e t (omega arith))

@@ -18,10 +18,6 @@ pub like-refl : (x : Float) → Like false x x
 unfolding signed
 like-refl x = record { same = refl }
 
-pub like-minus-r : (x : Float) → Like true x (neg x)
-unfolding signed
-like-minus-r x = record { same = ap plain (sym (neg-neg x)) }
-
 -- ---- what an operation does with `plain` of an argument
 zero-alike : (s t : Bool) (d e : ℤ) → plain (fin s zero d) ≡ plain (fin t zero e)
 unfolding plain

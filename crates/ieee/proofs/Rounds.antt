@@ -8,7 +8,6 @@ use mathlib.Core.Bool.{Bool, true, false, not, cond}
 use lib.IntN.{pos}
 use lib.Dec.{eqb, eqb→eq, not-T, T, ltb, ltb→lt, nltb→le}
 use lib.Ieee.{div, unlike, nan, inf, Float, fin, Format, up, down, round, add, sub, mul, neg, le}
-use lib.Ieee.Bits.{is-false}
 use lib.Ieee.Order.{round-mono}
 use lib.Ieee.Scale.{finite, round-same}
 use lib.Ieee.Bits.{is-false}

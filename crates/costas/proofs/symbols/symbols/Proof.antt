@@ -29,11 +29,11 @@ interp-f32-pair-requires c κs = search needs
 derotate-requires : tie.Need-derotate-requires Inv-loop μ-loop
 derotate-requires c κs = search needs
 
-step-requires : tie.Need-step-requires Inv-loop μ-loop
-step-requires c κs = search needs
-
 store-sample-requires : tie.Need-store-sample-requires Inv-loop μ-loop
 store-sample-requires c κs = search needs
+
+step-requires : tie.Need-step-requires Inv-loop μ-loop
+step-requires c κs = search needs
 
 add-k : tie.Need-add-k Inv-loop μ-loop
 add-k c = let u = c .before .before .before .before .before .before .before .before .before .before .loop .inv .small in omega arith
@@ -44,7 +44,7 @@ loop-less c = omega arith
 loop-again : tie.Need-loop-again Inv-loop μ-loop
 loop-again c =
     let t = c .before .before .before .before .before .before .before .before .before .before in
-    goes-on (t .loop .inv) (c .before .before .before .before .before .before .before .before .before .loop-test .taken) (c .before .before .before .before .before .before .before .before .sample-at .ensures) (c .before .before .before .before .before .derotate .ensures ∙ ap (derotated _) (c .before .before .before .before .before .before .interp-f32-pair .ensures)) (c .before .before .before .before .step .ensures) (c .before .before .store-sample .ensures)
+    goes-on (t .loop .inv) (c .before .before .before .before .before .before .before .before .before .loop-test .taken) (c .before .before .before .before .before .before .before .before .sample-at .ensures) (c .before .before .before .before .before .derotate .ensures ∙ ap (derotated _) (c .before .before .before .before .before .before .interp-f32-pair .ensures)) (c .step .ensures) (c .before .before .before .store-sample .ensures)
 
 same-length : tie.Need-same-length Inv-loop μ-loop
 same-length c = let u = c .before .loop .inv in u .room ∙ sym (u .room₀)
@@ -63,8 +63,8 @@ symbols-spec =
     sample-at-requires
     interp-f32-pair-requires
     derotate-requires
-    step-requires
     store-sample-requires
+    step-requires
     add-k
     loop-less
     loop-again
