@@ -1,6 +1,6 @@
 // The phase step of the oscillator, from fallback/modulate.rs and fallback/costas.rs.
-mod costas;
 mod modulate;
+mod single;
 
-pub use costas::phase_step_f32;
 pub use modulate::phase_step;
+pub use single::phase_step_f32;

@@ -1,4 +1,4 @@
--- `modulate::costas::phase_step_f32` meets its contract: from the bits below 2^14 in size, else by the f64 form, which is the same for every f32. Assumes nothing.
+-- `modulate::single::phase_step_f32` meets its contract: from the bits below 2^14 in size, else by the f64 form, which is the same for every f32. Assumes nothing.
 use mathlib.Core.Path.{ap, _∙_}
 use lib.Dec.{T}
 use lib.Ieee.{Float, binary32, ofBits, neg, fits}
@@ -6,8 +6,8 @@ use borrow.Author.Needs.{needs}
 use Rattle.ieee.proofs.Test.{yes}
 use Rattle.modulate.specs.Step.{stepOf, turn₀}
 use Rattle.modulate.proofs.Laws.StepSingle.{step-single}
-use Rattle.modulate.proofs.costas.phase_step_f32.Statement.{statement}
-use Rattle.modulate.proofs.costas.phase_step_f32.Tie as tie
+use Rattle.modulate.proofs.single.phase_step_f32.Statement.{statement}
+use Rattle.modulate.proofs.single.phase_step_f32.Tie as tie
 
 -- what owning an `f32` tells: the format holds it
 held : (c : tie.Start) → T (fits binary32 (c .args .v))

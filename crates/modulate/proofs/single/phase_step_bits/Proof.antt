@@ -1,4 +1,4 @@
--- `modulate::costas::phase_step_bits` meets its contract: its number is the law's, and below 2^14 each difference and sum has room. Assumes nothing.
+-- `modulate::single::phase_step_bits` meets its contract: its number is the law's, and below 2^14 each difference and sum has room. Assumes nothing.
 use mathlib.Core.Path.{_≡_, sym, ap, _∙_, subst}
 use Prim.Native.Nat.{ℕ, _+_, _-_, _/_, _%_, _^_, _≤_, _<_}
 use native.Mathlib.Omega.{arith}
@@ -8,8 +8,8 @@ use borrow.Author.Needs.{needs}
 use Rattle.ieee.proofs.Test.{yes}
 use Rattle.modulate.proofs.Laws.StepBits.{moved}
 use Rattle.modulate.proofs.Laws.Fields.{digits, shifted, bitsQuotient, small-number, field-le, places-room, quotient-lt, step-of-bits}
-use Rattle.modulate.proofs.costas.phase_step_bits.Statement.{statement}
-use Rattle.modulate.proofs.costas.phase_step_bits.Tie as tie
+use Rattle.modulate.proofs.single.phase_step_bits.Statement.{statement}
+use Rattle.modulate.proofs.single.phase_step_bits.Tie as tie
 
 -- what owning an f32 tells: the format holds it
 held : (c : tie.Start) → T (fits binary32 (c .args .v))

@@ -1,10 +1,10 @@
--- `modulate::costas::moved` meets its contract: either way the test picks the number. Assumes nothing.
+-- `modulate::single::moved` meets its contract: either way the test picks the number. Assumes nothing.
 use Prim.Native.Nat.{_^_}
 use native.Mathlib.Omega.{arith}
 use borrow.Author.Needs.{needs}
 use borrow.Author.Tests.{lt-ltb, le-ltb}
-use Rattle.modulate.proofs.costas.moved.Statement.{statement}
-use Rattle.modulate.proofs.costas.moved.Tie as tie
+use Rattle.modulate.proofs.single.moved.Statement.{statement}
+use Rattle.modulate.proofs.single.moved.Tie as tie
 
 add-result : tie.Need-add-result
 add-result c = search needs
