@@ -59,14 +59,16 @@ fn samples<T: Parts>(name: &'static str, samples: &[T]) -> Field {
     (name, parts.map(Value::Single).collect())
 }
 
-fn ted_code(ted: Ted) -> u8 {
+/// The number of a detector.
+pub fn ted_code(ted: Ted) -> u8 {
     match ted {
         Ted::Gardner => 0,
         Ted::MuellerMuller => 1,
     }
 }
 
-fn constellation_code(constellation: CostasConstellation) -> u8 {
+/// The number of a constellation.
+pub fn constellation_code(constellation: CostasConstellation) -> u8 {
     match constellation {
         CostasConstellation::Bpsk => 0,
         CostasConstellation::Qpsk => 1,

@@ -43,13 +43,20 @@ pub fn single(word: u64) -> f32 {
     f32::from_bits(u32::try_from(word).unwrap())
 }
 
-/// The lines have 53 bytes, no question comes twice, and they are the same every time.
+/// The lines have 53 bytes, and they are the same every time. Gives them.
 #[cfg(test)]
-pub fn check_form(make: fn() -> String) {
+pub fn check_width(make: fn() -> String) -> String {
     let text = make();
     assert!(text.lines().all(|line| line.len() == 52));
     assert_eq!(text.len(), 53 * text.lines().count());
+    assert!(text == make(), "the text is another one the second time");
+    text
+}
+
+/// The same, and no question comes twice.
+#[cfg(test)]
+pub fn check_form(make: fn() -> String) {
+    let text = check_width(make);
     let questions: HashSet<&str> = text.lines().map(|line| &line[..35]).collect();
     assert_eq!(questions.len(), text.lines().count());
-    assert_eq!(text, make());
 }

@@ -11,6 +11,7 @@ use std::process::ExitCode;
 include!(concat!(env!("OUT_DIR"), "/original.rs"));
 
 mod bits;
+mod carrier_runs;
 mod compare;
 mod fields;
 mod floats;
@@ -21,6 +22,7 @@ mod play;
 mod random;
 mod refusal;
 mod runs;
+mod script;
 mod signal;
 #[cfg(feature = "ported")]
 mod speed;
@@ -36,16 +38,18 @@ usage: oracle play [--reference] SCRIPT   plays a script ('-' reads standard inp
        oracle numbers                     writes the recorded answers of the number operations
        oracle oscillator                  writes those of the oscillator and the phase steps
        oracle runs                        writes those of the timing loop
+       oracle carrier                     writes those of the carrier loop
        oracle record FOLDER               writes all recorded answers, FOLDER/NAME/stdin each
-       oracle speed                       times the ported timing loop (feature 'ported')";
+       oracle speed                       times the ported loops (feature 'ported')";
 
 /// Makes the text of one file of recorded answers.
 type Make = fn() -> String;
 
 /// Recorded answers: the folder that each file goes to, and what makes it.
-const RECORDED: [(&str, Make); 2] = [
+const RECORDED: [(&str, Make); 3] = [
     ("operations_replay", operations),
     ("timing_replay", runs::recorded),
+    ("carrier_replay", carrier_runs::recorded),
 ];
 
 /// The recorded answers of all operations that are one line each.
@@ -63,6 +67,7 @@ fn main() -> ExitCode {
         ["numbers"] => write_out(&numbers::recorded()),
         ["oscillator"] => write_out(&oscillator::recorded()),
         ["runs"] => write_out(&runs::recorded()),
+        ["carrier"] => write_out(&carrier_runs::recorded()),
         ["record", folder] => record(Path::new(folder)),
         #[cfg(feature = "ported")]
         ["speed"] => tell(&speed::speed()),

@@ -1,4 +1,4 @@
-//! Samples for the comparison: a modulated signal with noise, and odd values mixed in.
+//! Samples for the comparison and the recordings: a modulated signal with noise, and odd values mixed in.
 
 use std::f64::consts::TAU;
 
@@ -53,7 +53,6 @@ impl Signal {
     }
 
     /// A signal with a little noise, on no carrier and without odd values.
-    #[cfg(feature = "ported")]
     pub fn ordinary(points: usize, period: f64) -> Self {
         Self {
             points,
@@ -66,6 +65,15 @@ impl Signal {
             size: 1.0,
             noise: 0.1,
             odd: 0.0,
+        }
+    }
+
+    /// The same on a carrier, which begins at so many turns and grows by so many at each sample.
+    pub fn carried(self, turn: f64, turn_step: f64) -> Self {
+        Self {
+            turn,
+            turn_step,
+            ..self
         }
     }
 

@@ -6,6 +6,7 @@ use lib.Dec.{eqb}
 use lib.ListN.{length, getD, take, drop}
 use Rattle.replay.specs.declared.hex.Word.{Word}
 use Rattle.replay.specs.declared.hex.Word.the-variants.{Value, Broken}
+use Rattle.replay.specs.declared.line.Operation.{Operation}
 use Rattle.replay.specs.declared.line.Reading.{Reading}
 use Rattle.replay.specs.declared.line.Reading.the-variants.{Asks, Malformed}
 use Rattle.replay.specs.Hex.{wordOf}
@@ -30,3 +31,12 @@ asking c Broken v w = Malformed
 
 unfoldable pub readingOf : List ℕ → Reading
 readingOf l = cond (formed l) (asking (getD l 0 0) (wordAt l 2) (wordAt l 19) (wordAt l 36)) Malformed
+
+-- no letter for a malformed line
+abbrev pub asked : Reading → Operation
+asked (Asks op) = op
+asked Malformed = record { letter = 0; x = 0; y = 0; answer = 0 }
+
+-- whether a line has these three words
+abbrev pub has : Operation → ℕ → ℕ → ℕ → Bool
+has op x y z = eqb x (op .x) && (eqb y (op .y) && eqb z (op .answer))

@@ -1,10 +1,14 @@
 // What the programs that replay recorded answers share: reading hexadecimal words, floats and their
-// bit patterns, comparing floats, and writing counts.
+// bit patterns, comparing floats, and writing counts; and for recorded calls, which are played in order
+// on one state, the buffers and the tally.
 mod bits;
+pub mod buffers;
 mod compare;
 mod hex;
 mod line;
 mod report;
+pub mod tally;
+mod words;
 
 pub use bits::f32_bits;
 pub use bits::f32_of;
@@ -19,8 +23,14 @@ pub use hex::read_word;
 pub use line::Operation;
 pub use line::Reading;
 pub use line::read_line;
+pub use line::read_operation;
 pub use report::count;
 pub use report::differs;
 pub use report::malformed;
 pub use report::missed;
 pub use report::summary;
+pub use words::floats_agree;
+pub use words::high;
+pub use words::low;
+pub use words::word;
+pub use words::words_agree;

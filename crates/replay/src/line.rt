@@ -2,7 +2,7 @@
 use crate::hex::Word;
 use crate::hex::read_word;
 ghost use mathlib.Core.Path.{_≡_};
-ghost use Rattle.replay.specs.Line.{asking, readingOf, spaced};
+ghost use Rattle.replay.specs.Line.{asked, asking, readingOf, spaced};
 
 // What a line asks: the function's letter, the words of its arguments and of its answer.
 pub struct Operation {
@@ -30,6 +30,21 @@ pub fn read_line(line: &[u8]) -> Reading
         }
     }
     Reading::Malformed
+}
+
+// What a line asks. No letter stands for a malformed line, with which nothing agrees.
+pub fn read_operation(line: &[u8]) -> Operation
+    ensures { λ r. ⌜ r ≡ asked (readingOf (now (line .entry))) ⌝ }
+{
+    match read_line(line) {
+        Reading::Asks(op) => op,
+        Reading::Malformed => Operation {
+            letter: 0,
+            x: 0,
+            y: 0,
+            answer: 0,
+        },
+    }
 }
 
 // Whether three bytes are spaces and the last is a line end.

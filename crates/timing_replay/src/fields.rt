@@ -1,7 +1,7 @@
 // Comparing with a line what a state of either kind has: its parameters and its clock.
-use crate::words::floats_agree;
-use crate::words::words_agree;
 use replay::Operation;
+use replay::floats_agree;
+use replay::words_agree;
 use timing::Clock;
 use timing::Params;
 use timing::Ted;

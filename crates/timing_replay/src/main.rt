@@ -20,17 +20,16 @@
 //   h  the history's three samples
 //   y  previous strobe, previous decision, middle
 //   f  integrator, middle held + 2 started, next strobe
-mod buffers;
 mod complex;
 mod counts;
 mod fields;
 mod play;
 mod real;
 mod slot;
-mod words;
 
 use libc::STDIN_FILENO;
 use play::play_line;
+use replay::tally;
 use slot::Slot;
 
 // A proved loop has to end, and nothing says that the input does. So many lines are read at most.
@@ -66,5 +65,5 @@ fn play_lines(tally: &mut [u64; 14]) {
         );
         left -= 1;
     }
-    counts::too_long(tally);
+    tally::too_long(tally);
 }

@@ -1,24 +1,10 @@
 // Playing one line, and counting it.
-use crate::buffers;
 use crate::counts;
 use crate::slot;
 use crate::slot::Slot;
-use replay::Operation;
-use replay::Reading;
+use replay::buffers;
+use replay::tally;
 ghost use Rattle.timing_replay.specs.Slot.{SlotGiven};
-
-// What a line asks for. No letter stands for a malformed line, with which nothing agrees.
-fn read(line: &[u8]) -> Operation {
-    match replay::read_line(line) {
-        Reading::Asks(op) => op,
-        Reading::Malformed => Operation {
-            letter: 0,
-            x: 0,
-            y: 0,
-            answer: 0,
-        },
-    }
-}
 
 // Plays a line, and counts it.
 pub fn play_line(
@@ -32,9 +18,9 @@ pub fn play_line(
     requires { ⌜ SlotGiven slot ⌝ }
     ensures { λ r. ⌜ SlotGiven r ⌝ }
 {
-    let op = read(line);
+    let op = replay::read_operation(line);
     let mut agrees = buffers::play(op, values, input, output);
     let after = slot::play(slot, op, values, input, output, &mut agrees);
-    counts::count(tally, op.letter, line, agrees);
+    tally::count(tally, counts::place(op.letter), line, agrees);
     after
 }

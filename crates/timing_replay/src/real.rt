@@ -2,9 +2,9 @@
 use crate::fields::clock_agrees;
 use crate::fields::params_agree;
 use crate::fields::rest_agrees;
-use crate::words::word;
-use crate::words::words_agree;
 use replay::Operation;
+use replay::word;
+use replay::words_agree;
 use symbol_sync::real;
 use symbol_sync::real::SymbolSyncState;
 use values::Progress;

@@ -1,10 +1,10 @@
 //! Chains of calls: each goes on from the state that the last one left.
 
-use super::{Script, Values, flat, signal};
-use crate::Fallback;
+use super::{Recorder, Values, signal};
 use crate::bits::Parts;
 use crate::kernels::symbol_sync::{SymbolSync, SymbolSyncState, Ted};
 use crate::random::Random;
+use crate::script::flat;
 use crate::signal::odd_value;
 use crate::types::C32;
 
@@ -44,52 +44,52 @@ fn values(sps: f64, detector: Ted, deviation: f64, gain: f64) -> Values {
 }
 
 /// The cases of document 01 that are run.
-pub fn cases(script: &mut Script) {
+pub fn cases<K: SymbolSync<f32>>(recorder: &mut Recorder<K>) {
     let ramp: Vec<f32> = (1u8..7).map(f32::from).collect();
     for (samples, places) in [(3, 1), (4, 1), (4, 0)] {
         let two = values(2.0, Ted::Gardner, 0.005, 1.0);
-        let mut state = script.set_up::<f32>(two).expect("it is accepted");
-        script.run(&mut state, &ramp[..samples], places);
+        let mut state = recorder.set_up::<f32>(two).expect("it is accepted");
+        recorder.run(&mut state, &ramp[..samples], places);
     }
     for detector in [Ted::Gardner, Ted::MuellerMuller] {
         let four = values(4.0, detector, 0.005, 1.0);
-        let mut state = script.set_up::<f32>(four).expect("it is accepted");
-        script.run(&mut state, &ramp, 1);
+        let mut state = recorder.set_up::<f32>(four).expect("it is accepted");
+        recorder.run(&mut state, &ramp, 1);
     }
 }
 
 /// Short chains of every pair of lengths, then random ones.
-pub fn record<T: Parts>(script: &mut Script, random: &mut Random, detector: Ted)
+pub fn record<T: Parts, K>(recorder: &mut Recorder<K>, random: &mut Random, detector: Ted)
 where
-    Fallback: SymbolSync<T>,
+    K: SymbolSync<T>,
 {
     for first in 0..6 {
         for second in 0..6 {
             let sps = random.pick(&[2.0, 2.3, 3.0]);
             let set_up = values(sps, detector, 0.05, 0.5);
-            let mut state = script.set_up::<T>(set_up).expect("it is accepted");
+            let mut state = recorder.set_up::<T>(set_up).expect("it is accepted");
             for length in [first, second, 5] {
                 let places = random.up_to(3);
                 let input = signal(random, sps, length);
-                script.run(&mut state, &input, places);
+                recorder.run(&mut state, &input, places);
             }
         }
     }
     for sps in PACES {
         for deviation in DEVIATIONS {
             let gain = random.pick(&GAINS);
-            random_chain::<T>(script, random, values(sps, detector, deviation, gain));
+            random_chain::<T, K>(recorder, random, values(sps, detector, deviation, gain));
         }
-        random_chain::<T>(script, random, values(sps, detector, 0.05, 1e-9));
+        random_chain::<T, K>(recorder, random, values(sps, detector, 0.05, 1e-9));
     }
 }
 
 /// A chain of calls on one signal. What is not consumed mostly comes again.
-fn random_chain<T: Parts>(script: &mut Script, random: &mut Random, set_up: Values)
+fn random_chain<T: Parts, K>(recorder: &mut Recorder<K>, random: &mut Random, set_up: Values)
 where
-    Fallback: SymbolSync<T>,
+    K: SymbolSync<T>,
 {
-    let mut state = script.set_up::<T>(set_up).expect("it is accepted");
+    let mut state = recorder.set_up::<T>(set_up).expect("it is accepted");
     let mut rest: Vec<T> = Vec::new();
     for _ in 0..12 {
         let length = random.pick(&LENGTHS);
@@ -97,15 +97,15 @@ where
         let more = length.min(LONGEST - input.len());
         input.extend(block::<T>(random, set_up.sps, more));
         let places = random.pick(&PLACES);
-        let consumed = script.run(&mut state, &input, places);
+        let consumed = recorder.run(&mut state, &input, places);
         rest = input.split_off(consumed);
         if random.chance(0.1) {
             rest.clear();
         }
         if random.chance(0.03) {
-            script.reset(&mut state);
+            recorder.reset(&mut state);
         }
-        odd::<T>(script, random, &state);
+        odd(recorder, random, &state);
     }
 }
 
@@ -120,12 +120,12 @@ fn block<T: Parts>(random: &mut Random, sps: f64, length: usize) -> Vec<T> {
 }
 
 /// Now and then a complex run with an f32 left over.
-fn odd<T: Parts>(script: &mut Script, random: &mut Random, state: &SymbolSyncState<T>) {
+fn odd<T: Parts, K>(recorder: &mut Recorder<K>, random: &mut Random, state: &SymbolSyncState<T>) {
     if T::COUNT == 1 || random.chance(0.9) {
         return;
     }
     let samples = 1 + random.up_to(4);
     let floats = flat(&signal::<C32>(random, 4.0, samples));
     let (left, places) = random.pick(&[(1, 4), (0, 3), (1, 1)]);
-    script.odd_run(state, &floats[left..], places);
+    recorder.odd_run(state, &floats[left..], places);
 }

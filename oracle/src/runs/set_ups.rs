@@ -1,6 +1,6 @@
 //! Set-ups: each value over its range and beyond, and two wrong values at a time.
 
-use super::{Script, Values};
+use super::{Recorder, Values};
 use crate::bits::Parts;
 use crate::kernels::symbol_sync::Ted;
 
@@ -57,28 +57,28 @@ fn around(end: f64) -> [f64; 3] {
     [end.next_down(), end, end.next_up()]
 }
 
-pub fn record<T: Parts>(script: &mut Script, detector: Ted) {
+pub fn record<T: Parts, K>(recorder: &mut Recorder<K>, detector: Ted) {
     let plain = ordinary(detector);
     for (place, ends) in ENDS.into_iter().enumerate() {
         let near = ends.into_iter().flat_map(around);
         for x in near.chain(ODD) {
-            script.set_up::<T>(with(plain, place, x));
+            recorder.set_up::<T>(with(plain, place, x));
         }
-        for other in place + 1..WRONG.len() {
-            let wrong = with(plain, place, WRONG[place]);
-            script.set_up::<T>(with(wrong, other, WRONG[other]));
+        let wrong = with(plain, place, WRONG[place]);
+        for (other, x) in WRONG.into_iter().enumerate().skip(place + 1) {
+            recorder.set_up::<T>(with(wrong, other, x));
         }
     }
-    gains::<T>(script, detector);
+    gains::<T, K>(recorder, detector);
 }
 
 /// Gains that are about to overflow, in kp alone and in both.
-fn gains<T: Parts>(script: &mut Script, detector: Ted) {
+fn gains<T: Parts, K>(recorder: &mut Recorder<K>, detector: Ted) {
     for exponent in 295..324 {
         for sps in [2.0, 1_000_000.0] {
             let gain = 10f64.powi(-exponent);
             let values = with(ordinary(detector), 0, sps);
-            script.set_up::<T>(with(values, 4, gain));
+            recorder.set_up::<T>(with(values, 4, gain));
         }
     }
 }

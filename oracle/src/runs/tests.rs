@@ -1,17 +1,15 @@
 //! The recorded runs are in the form that README.md describes, and reach what they should.
 
 use super::recorded;
+use crate::lines::{check_width, fields};
 
 fn lines() -> Vec<(char, u64, u64, u64)> {
-    recorded().lines().map(crate::lines::fields).collect()
+    recorded().lines().map(fields).collect()
 }
 
 #[test]
 fn the_lines_have_53_bytes_and_are_the_same_every_time() {
-    let text = recorded();
-    assert!(text.lines().all(|line| line.len() == 52));
-    assert_eq!(text.len(), 53 * text.lines().count());
-    assert_eq!(text, recorded());
+    check_width(recorded);
 }
 
 #[test]

@@ -1,13 +1,24 @@
-// What the lines leave for the next set-up and the next run, and the output that the last run left.
+// What the lines of recorded calls leave for the next set-up and the next run, and the output that the
+// last run left. The letters mean the same wherever calls are played:
+//
+//   v  three words of the next set-up
+//   z  resets
+//   i  six f32, which go behind the input so far
+//   r  runs
+//   o  the next six f32 of the output, with the filling behind what was lent
 //
 // `values` has the three words of the next set-up, and how many f32 were put into the input and how
 // many of the output were compared.
+use crate::bits::f32_of;
+use crate::line::Operation;
 use crate::words::high;
 use crate::words::low;
 use crate::words::word;
 use crate::words::words_agree;
-use replay::Operation;
+ghost use mathlib.Core.Path.{_≡_};
 ghost use Prim.Native.Nat.{_<_};
+ghost use lib.ListN.{getD};
+ghost use Rattle.replay.specs.Buffers.{withPair, withSix, pairAt, sameSix, withValues, placeOf, withSixMore, fromZero, filled, played};
 
 const INPUT: usize = 3;
 
@@ -18,6 +29,7 @@ const FILLING: u32 = 0xdeadbeef;
 
 fn put(input: &mut [f32; 192], k: usize, word: u64)
     requires { ⌜ k < 191 ⌝ }
+    ensures { λ _. ⌜ now (input .exit) ≡ withPair (now (input .entry)) k word ⌝ }
 {
     input[k] = high(word);
     input[k + 1] = low(word);
@@ -25,6 +37,7 @@ fn put(input: &mut [f32; 192], k: usize, word: u64)
 
 fn put_six(input: &mut [f32; 192], k: usize, op: Operation)
     requires { ⌜ k < 187 ⌝ }
+    ensures { λ _. ⌜ now (input .exit) ≡ withSix (now (input .entry)) k op ⌝ }
 {
     put(input, k, op.x);
     put(input, k + 2, op.y);
@@ -33,12 +46,14 @@ fn put_six(input: &mut [f32; 192], k: usize, op: Operation)
 
 fn word_at(output: &[f32; 192], k: usize) -> u64
     requires { ⌜ k < 191 ⌝ }
+    ensures { λ r. ⌜ r ≡ pairAt (now (output .entry)) k ⌝ }
 {
     word(output[k], output[k + 1])
 }
 
 fn six_agree(output: &[f32; 192], k: usize, op: Operation) -> bool
     requires { ⌜ k < 187 ⌝ }
+    ensures { λ r. ⌜ r ≡ sameSix (now (output .entry)) k op ⌝ }
 {
     words_agree(
         word_at(output, k),
@@ -51,7 +66,9 @@ fn six_agree(output: &[f32; 192], k: usize, op: Operation) -> bool
 // Where the line's six f32 stand in a buffer. What has no room comes to stand at its end.
 fn next_six(values: &mut [u64; 5], count: usize) -> usize
     requires { ⌜ count < 5 ⌝ }
-    ensures { λ r. ⌜ r < 187 ⌝ }
+    ensures place { λ r. ⌜ r ≡ placeOf (getD (now (values .entry)) count 0) ⌝ }
+    ensures values { λ _. ⌜ now (values .exit) ≡ withSixMore (now (values .entry)) count ⌝ }
+    ensures room { λ r. ⌜ r < 187 ⌝ }
 {
     let at = values[count];
     if at > 186 {
@@ -61,26 +78,33 @@ fn next_six(values: &mut [u64; 5], count: usize) -> usize
     at as usize
 }
 
-fn next_set_up(values: &mut [u64; 5], op: Operation) {
+fn next_set_up(values: &mut [u64; 5], op: Operation)
+    ensures { λ _. ⌜ now (values .exit) ≡ withValues (now (values .entry)) op ⌝ }
+{
     values[0] = op.x;
     values[1] = op.y;
     values[2] = op.answer;
 }
 
 // Makes ready for a run, and for the input of the one after it.
-fn next_run(values: &mut [u64; 5], output: &mut [f32; 192]) {
+fn next_run(values: &mut [u64; 5], output: &mut [f32; 192])
+    ensures values { λ _. ⌜ now (values .exit) ≡ fromZero (now (values .entry)) ⌝ }
+    ensures output { λ _. ⌜ now (output .exit) ≡ filled ⌝ }
+{
     values[INPUT] = 0;
     values[OUTPUT] = 0;
-    *output = [replay::f32_of(FILLING); 192];
+    *output = [f32_of(FILLING); 192];
 }
 
 // Plays a line on the buffers. Answers whether it agrees, or false if the state has to say so.
-pub(crate) fn play(
+pub fn play(
     op: Operation,
     values: &mut [u64; 5],
     input: &mut [f32; 192],
     output: &mut [f32; 192],
-) -> bool {
+) -> bool
+    ensures { λ r. ⌜ played op (now (values .entry)) (now (input .entry)) (now (output .entry)) ≡ record { agrees = r; values = now (values .exit); input = now (input .exit); output = now (output .exit) } ⌝ }
+{
     let letter = op.letter;
     match letter {
         b'v' => {

@@ -1,0 +1,67 @@
+// Replays recorded answers of the original's carrier loop, which stand on standard input: set-ups,
+// setters, resets and runs, and each field of the state after them. Says how many lines were played of
+// each kind, and how many differ from what the crates `carrier` and `costas` compute.
+//
+// A line has 53 bytes: a letter, then three words of 16 hexadecimal digits, each after a space, and
+// a line end. Two f32 of the input and the output stand in one word, the first in its high half; any
+// other f32 stands in the low half of its word, after zeros. A word that is not named is zero.
+//
+//   v  loop bandwidth, damping, maximum offset   of the next set-up
+//   n  constellation, (none), number: sets up; constellation 0 is BPSK, 1 QPSK and 2 8-PSK, the number
+//      the one it is refused with, or 0
+//   z  resets
+//   p  phase: sets it
+//   q  frequency: sets it
+//   i  six f32, which go behind the input so far
+//   r  f32 of input + 2^32 f32 of output, (none), number: runs
+//   o  the next six f32 of the output, with the filling behind what was lent
+//   a  loop bandwidth, damping, maximum offset   of the state: the readings
+//   k  kp, ki, the limit
+//   s  phase, frequency as the f32 that it is, the reading of it
+//   l  lock level, locked, constellation
+mod counts;
+mod fields;
+mod play;
+mod slot;
+mod state;
+
+use libc::STDIN_FILENO;
+use play::play_line;
+use replay::tally;
+use slot::Slot;
+
+// A proved loop has to end, and nothing says that the input does. So many lines are read at most.
+const LINES: u64 = 67108864;
+
+fn main() {
+    let mut tally = [0; 14];
+    play_lines(&mut tally);
+    counts::show(&tally);
+}
+
+// Plays line after line, up to the end of the input. What is left there after the last whole line
+// counts as a line too.
+fn play_lines(tally: &mut [u64; 14]) {
+    let mut values = [0u64; 5];
+    let mut input = [0.0f32; 192];
+    let mut output = [0.0f32; 192];
+    let mut slot = Slot::Empty;
+    let mut left = LINES;
+    while left > 0 {
+        let mut line = [0u8; 53];
+        let n = io::read_full(STDIN_FILENO, &mut line);
+        if n == 0 {
+            return;
+        }
+        slot = play_line(
+            slot,
+            &line[..n],
+            &mut values,
+            &mut input,
+            &mut output,
+            tally,
+        );
+        left -= 1;
+    }
+    tally::too_long(tally);
+}

@@ -1,0 +1,25 @@
+-- `replay::read_operation` meets its contract: by what the line was read as. Assumes nothing.
+use mathlib.Core.Path.{sym, ap, _∙_}
+use Rattle.replay.specs.Line.{asked}
+use borrow.Author.Needs.{needs}
+use Rattle.replay.proofs.line.read_operation.Statement.{statement}
+use Rattle.replay.proofs.line.read_operation.Tie as tie
+
+read-line-requires : tie.Need-read-line-requires
+read-line-requires c κs = search needs
+
+enum-known-op : tie.Need-enum-known-op
+enum-known-op c = search needs
+
+enum-told : tie.Need-enum-told
+enum-told c = search needs
+
+returns : tie.Need-returns
+returns c = ap asked (sym (c .before .op .given .1) ∙ c .before .before .before .read-line .ensures)
+
+returns-2 : tie.Need-returns-2
+returns-2 c = ap asked (sym (c .enum-told .given .1) ∙ c .before .before .read-line .ensures)
+
+pub read-operation-spec : {M : Type 1} → statement M
+read-operation-spec =
+    tie.close (tie.spec read-line-requires enum-known-op enum-told returns returns-2)

@@ -1,0 +1,17 @@
+-- The tally of recorded calls that were played. Definitions only.
+use Prim.Native.Nat.{ℕ, _+_, _^_, _%_}
+use mathlib.Core.Bool.{Bool, cond}
+use mathlib.Core.List.{List}
+use lib.Dec.{ltb}
+use lib.ListN.{getD, set}
+
+-- the malformed lines' where there is none
+abbrev pub placeOf : ℕ → ℕ
+placeOf p = cond (ltb p 14) p 10
+
+abbrev pub oneMore : List ℕ → ℕ → List ℕ
+oneMore l p = set l p ((getD l p 0 + 1) % 2 ^ 64)
+
+-- a line at its place, among all lines (12) and, if it differs, among those (13)
+abbrev pub counted : List ℕ → ℕ → Bool → List ℕ
+counted l p agrees = let all = oneMore (oneMore l (placeOf p)) 12 in cond agrees all (oneMore all 13)
