@@ -1,9 +1,10 @@
--- The octant depends only on where both parts lie relative to zero and on the comparisons of their magnitudes: it is below 8, samples alike have the same, and the code's sum is it. Assumes nothing.
+-- The octant depends only on where both parts lie relative to zero and on the comparisons of their magnitudes: it is below 8, samples alike have the same, silence and NaN have 0, and the code's sum is it. Assumes nothing.
 use mathlib.Core.Path.{_≡_, refl, sym, _∙_}
-use Prim.Native.Nat.{ℕ, _+_, _<_}
+use Prim.Native.Nat.{ℕ, zero, _+_, _<_}
 use native.Mathlib.Omega.{arith}
 use mathlib.Core.Bool.{Bool, true, false, _&&_, _||_, cond}
-use lib.Ieee.{Float, lt, le}
+use lib.IntN.{ℤ}
+use lib.Ieee.{Float, nan, fin, lt, le}
 use Rattle.ieee.specs.Constants.{zero₀}
 use Rattle.ieee.specs.Magnitude.{magnitude}
 use Rattle.ieee.proofs.Compare.{like-lt}
@@ -111,3 +112,24 @@ module _ (y : C32) {m n : Float} (p : m ≡ sizeOf (y .re)) (q : n ≡ sizeOf (y
       (λ j. (term (in-first y j) (wide-is j) 0 + term (in-second y j) (tall-is j) 2) + (term (in-third y j) (wide-is j) 4 + term (in-fourth y j) (tall-is j) 6))
       ∙ sum-is (class (y .re)) (class (y .im)) (wide y) (tall y)
       ∙ sym (octant-by y)
+
+-- ---- "silence and NaN take point 0"
+by-none : (a : Class) (w t : Bool) → octantBy a none w t ≡ 0
+unfolding octantBy
+by-none low w t = refl
+by-none nil w t = refl
+by-none high w t = refl
+by-none none w t = refl
+
+pub octant-nan-re : (x : Float) → octantOf (record { re = nan; im = x }) ≡ 0
+unfolding octantBy class
+octant-nan-re x = octant-by (record { re = nan; im = x })
+
+pub octant-nan-im : (x : Float) → octantOf (record { re = x; im = nan }) ≡ 0
+unfolding class
+octant-nan-im x = let y : C32 = record { re = x; im = nan } in octant-by y ∙ by-none (class x) (wide y) (tall y)
+
+-- zeros of either sign
+pub octant-silence : (s t : Bool) (d e : ℤ) → octantOf (record { re = fin s zero d; im = fin t zero e }) ≡ 0
+unfolding octantBy class
+octant-silence s t d e = octant-by (record { re = fin s zero d; im = fin t zero e })
