@@ -2,6 +2,7 @@
 pub mod Setup
 pub mod Gains
 pub mod Refused
+pub mod Count
 pub mod Given
 pub mod Class
 pub mod Size

@@ -7,3 +7,4 @@ pub mod LowBits
 pub mod Wide
 pub mod StepSingle
 pub mod Zeros
+pub mod Cases

@@ -24,6 +24,17 @@ track s = record { clock = s .clock; yPrev = s .«y_prev»; dPrev = s .«d_prev�
 abbrev pub sync : SymbolSyncState → Sync C32
 sync s = record { params = s .params; hist = hist (s .hist); track = track (s .track) }
 
+-- the struct that a record is the view of: `sync` undone
+abbrev pub stateOf : Sync C32 → SymbolSyncState
+stateOf s =
+    let h = s .hist in
+    let t = s .track in
+    record {
+      params = s .params;
+      hist = record { a = h .a; b = h .b; c = h .c };
+      track = record { clock = t .clock; «y_prev» = t .yPrev; «d_prev» = t .dPrev; mid = t .mid; «mid_ready» = t .midReady; started = t .started };
+    }
+
 -- the history followed by the input's samples
 abbrev pub line : declaredHist.Hist → List Float → List C32
 line h xs = run.line (hist h) (samples xs)

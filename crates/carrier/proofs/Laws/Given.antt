@@ -102,7 +102,7 @@ unfolding runs
 runs-kept table c p t [] l k = k
 runs-kept table c p t (x ∷ xs) l k = let y = outputOf table t x in runs-kept table c p (stepped c p t y) xs l (stepped-kept c p t y l k)
 
-done-given : (s : CostasState) (xs : List Float) → Given s → Given (done s xs .state)
+pub done-given : (s : CostasState) (xs : List Float) → Given s → Given (done s xs .state)
 done-given s xs g =
     let l = limits (s .constellation) (s .params) (g .accepted) in
     let k = runs-kept cosList (s .constellation) (s .params) (s .track) (samples xs) l (record { phase-in = g .phase-in; freq-low = g .freq-low; freq-high = g .freq-high }) in

@@ -56,9 +56,9 @@ pub same-carrier : {m : ℕ} {s t : CostasState} → TiedState m s t → SameCar
 same-carrier h = record { frequency = h .track .nco .freq; level = h .track .lock .level; lock = h .track .lock .locked; phase = h .track .nco .phase }
 
 -- ---- a call
-record TiedOutcome (k m : ℕ) (q r : Outcome) : Type 0 where
-  answer : TurnedOutcome (turnsLess k m) q r
-  state : TiedState m (q .state) (r .state)
+pub record TiedOutcome (k m : ℕ) (q r : Outcome) : Type 0 where
+  pub answer : TurnedOutcome (turnsLess k m) q r
+  pub state : TiedState m (q .state) (r .state)
 
 turned-less : (k m : ℕ) → m ≤ 3 → {l n : List C32} → AllTurned (k + 3 * m) l n → AllTurned (turnsLess k m) l n
 turned-less k m h none = none
@@ -67,7 +67,7 @@ turned-less k m h (more {a = z} {b = v} p ps) =
     more (subst (λ (j : ℕ). Turned j z v) e (turned-mod (k + 3 * m) z v p)) (turned-less k m h ps)
 
 module _ (k m : ℕ) (small : m ≤ 3) where
-  tied-done : {s t : CostasState} (xs ws : List Float) → Allowed (s .constellation) k m → TiedState m s t → AllTurned k (samples xs) (samples ws) → TiedOutcome k m (done s xs) (done t ws)
+  pub tied-done : {s t : CostasState} (xs ws : List Float) → Allowed (s .constellation) k m → TiedState m s t → AllTurned k (samples xs) (samples ws) → TiedOutcome k m (done s xs) (done t ws)
   tied-done {s} {t} xs ws a h r =
       let q : TiedSymbols k m (symbols s xs) (symbols t ws) = rw (h .constellation, h .params) (tied-runs (s .constellation) (s .params) k m a (h .track) r) in
       record {

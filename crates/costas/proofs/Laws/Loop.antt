@@ -17,17 +17,13 @@ use Rattle.carrier.specs.declared.constellation.CostasConstellation.{CostasCons
 use Rattle.carrier.specs.declared.params.Params.{Params}
 use Rattle.carrier.specs.declared.symbol.Track.{Track}
 use Rattle.carrier.specs.Step.{stepped, outputOf, Symbols, runs}
+use Rattle.carrier.proofs.Laws.Count.{runs-count}
 
 -- a value first
 abbrev more : C32 → Symbols → Symbols
 more y r = record { values = y ∷ r .values; last = r .last }
 
 module _ (table : List Float) (c : CostasConstellation) (p : Params) where
-  runs-count : (t : Track) (l : List C32) → length (runs table c p t l .values) ≡ length l
-  unfolding runs
-  runs-count t [] = refl
-  runs-count t (x ∷ l) = ap suc (runs-count (stepped c p t (outputOf table t x)) l)
-
   runs-none : (t : Track) → runs table c p t [] ≡ record { values = []; last = t }
   unfolding runs
   runs-none t = refl

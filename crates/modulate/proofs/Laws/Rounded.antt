@@ -1,11 +1,10 @@
 -- `rounded` is floor(±a / c + 1/2), and `phaseStep` of a value below 2^31 in size is that floor modulo 2^32, whichever fraction the value is written as. Assumes nothing.
-use mathlib.Core.Path.{_≡_, refl, sym, ap}
+use mathlib.Core.Path.{_≡_, sym, ap}
 use mathlib.Core.Logic.{inl, inr}
 use Prim.Native.Nat.{ℕ, _+_, _-_, _*_, _%_, _^_, _≤_, _<_}
 use native.Mathlib.Nat.{mul-le-mul-right, mul-lt-mul-of-pos-right, le-of-mul-le-mul-right, lt-of-mul-lt-mul-right, div-mul-le-self, lt-div-mul-add, div-eq-of-lt, div-eq-of-lt-le}
 use native.Mathlib.Omega.{arith}
 use mathlib.Core.Bool.{Bool, true, false, cond}
-use lib.IntN.{pos, negsuc}
 use lib.Ieee.{Float, nan, inf, fin, up, down}
 use lib.Ieee.Fits.{down-pos}
 use lib.Ieee.Exact.{HasValue}
@@ -85,8 +84,3 @@ step-of (fin t m e) s a c C v h =
     let p = mul-lt-mul-of-pos-right h (down-pos e) in
     rw (lt-leb (2 ^ 31 * d) b (lt-of-mul-lt-mul-right c (omega arith)), v .0)
     (ap (wrapped s) (rounded-same s (b * 2 ^ 32) d (a * 2 ^ 32) c (down-pos e) C (omega arith)))
-
--- the document's cases: v = 2^-33, -2^-33, -3 × 2^-33 and 2^31
-pub cases : (phaseStep (fin false 1 (negsuc 32)) ≡ 1) × (phaseStep (fin true 1 (negsuc 32)) ≡ 0) × (phaseStep (fin true 3 (negsuc 32)) ≡ 4294967295) × (phaseStep (fin false 1 (pos 31)) ≡ 4294967295)
-unfolding phaseStep
-cases = (refl, refl, refl, refl)

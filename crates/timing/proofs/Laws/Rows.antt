@@ -1,7 +1,7 @@
 -- The table of a set-up, row by row: the first row that is not passed decides. Of any answer; at the end, of the timing loop's. Assumes nothing.
 use mathlib.Core.Path.{_≡_, refl, sym, ap, _∙_}
 use mathlib.Core.Bool.{Bool, true, false, not, _&&_, cond}
-use mathlib.Core.List.{List, [], _∷_}
+use mathlib.Core.List.{List, [], _∷_, _++_}
 use lib.Dec.{T}
 use lib.Ieee.{Float}
 use lib.Ieee.Scale.{finite}
@@ -25,10 +25,26 @@ module _ {A : Type 0} (refuse : Refusal → A) where
     unfolding firstOf
     first-refused h = ap by h
 
+  -- ---- two tables in a row: the second decides where all of the first is passed
+  pub first-append : (l m : List Row) (t : A) → firstOf refuse (l ++ m) t ≡ firstOf refuse l (firstOf refuse m t)
+  unfolding firstOf
+  first-append [] m t = refl
+  first-append (r ∷ l) m t = ap (λ (x : A). cond (r .passed) x (refuse (r .reason))) (first-append l m t)
+
   -- ---- all rows are passed
   pub first-none : (t : A) → firstOf refuse [] t ≡ t
   unfolding firstOf
   first-none t = refl
+
+-- an answer made of a table's answer, in which a refusal stays that refusal
+pub first-map : {A B : Type 0} (f : A → B) (refuse : Refusal → A) (l : List Row) (t : A) → f (firstOf refuse l t) ≡ firstOf (λ (n : Refusal). f (refuse n)) l (f t)
+unfolding firstOf
+first-map f refuse [] t = refl
+first-map {A} {B} f refuse (r ∷ l) t = by (r .passed) ∙ ap (λ (x : B). cond (r .passed) x (f (refuse (r .reason)))) (first-map f refuse l t)
+  where
+    by : (b : Bool) → f (cond b (firstOf refuse l t) (refuse (r .reason))) ≡ cond b (f (firstOf refuse l t)) (f (refuse (r .reason)))
+    by true = refl
+    by false = refl
 
 pub all-passed : (sps : Float) (ted : Ted) (bw damping dev gain : Float) → inRange (decimal 2 1) sps (decimal 1000000 1) ≡ true → inRange (decimal 1 10000) bw (decimal 1 10) ≡ true → inRange (decimal 1 10) damping (decimal 4 1) ≡ true
     → inRange zero₀ dev (decimal 5 100) ≡ true → positive gain ≡ true → (finite (kpOf sps bw damping gain) && finite (kiOf sps bw damping gain)) ≡ true

@@ -19,25 +19,28 @@ use Rattle.values.proofs.Laws.Samples.{length-samples, length-parts, samples-pa
 use Rattle.values.proofs.Laws.Turn.{turnsAll-turned}
 use Rattle.timing.specs.declared.params.Params.{Params}
 use Rattle.timing.specs.Sample.{complex}
-use Rattle.timing.specs.Run.{Sync, fresh, Ran, Outcome, done, turnedAway, oddEither, doneComplex, calledComplex}
+use Rattle.timing.specs.Run.{Sync, fresh, Ran, Outcome, written, done, turnedAway, oddEither, doneComplex, calledComplex}
 use Rattle.timing.specs.Calls.{Call, callOf, leftBy, whole, TurnedCall, strobes, TurnedOutcome, SameClock, TurnedList}
 use Rattle.timing.proofs.Laws.Alike.{alike-instant}
 use Rattle.timing.proofs.Laws.TurnedRun.{TiedSync, tied-fresh, TiedRan, tied-ran}
 
 -- ---- a call
-record TiedOutcome (k : ℕ) (q r : Outcome C32) : Type 0 where
-  answer : TurnedOutcome k q r
-  state : TiedSync k (q .state) (r .state)
+pub record TiedOutcome (k : ℕ) (q r : Outcome C32) : Type 0 where
+  pub answer : TurnedOutcome k q r
+  pub state : TiedSync k (q .state) (r .state)
 
--- what is read back from the output is what the run gave
-strobes-back : (r : Ran C32) (ys : List Float) → strobes (done parts r ys) ≡ r .values
-strobes-back r ys =
-    let vs = r .values in
+-- what is read back from a slice is what was written at its front
+pub written-back : (vs : List C32) (ys : List Float) → take (length vs) (samples (written (parts vs) ys)) ≡ vs
+written-back vs ys =
     let rest = drop (length (parts vs)) ys in
     let even : length (parts vs) % 2 ≡ 0 = omega (arith, length-parts vs) in
     ap (take (length vs)) (samples-append (parts vs) rest even ∙ ap (λ (l : List C32). l ++ samples rest) (samples-parts vs)) ∙ take-append-seam vs (samples rest)
 
-tied-done : (k : ℕ) {q r : Ran C32} (ys zs : List Float) → TiedRan k q r → TiedOutcome k (done parts q ys) (done parts r zs)
+-- what is read back from the output is what the run gave
+strobes-back : (r : Ran C32) (ys : List Float) → strobes (done parts r ys) ≡ r .values
+strobes-back r ys = written-back (r .values) ys
+
+pub tied-done : (k : ℕ) {q r : Ran C32} (ys zs : List Float) → TiedRan k q r → TiedOutcome k (done parts q ys) (done parts r zs)
 tied-done k {q} {r} ys zs h = record {
   answer = record { number = refl; consumed = h .taken; produced = sym (each-length (h .values)); turned = rw (strobes-back q ys, strobes-back r zs) (h .values) };
   state = h .state;

@@ -1,0 +1,12 @@
+-- The laws of this crate's definitions.
+pub mod Setup
+pub mod Values
+pub mod Refused
+pub mod Given
+pub mod Accepted
+pub mod Sparing
+pub mod Count
+pub mod Symbol
+pub mod Turned
+pub mod Premise
+pub mod Cases

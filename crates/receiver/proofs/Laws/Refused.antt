@@ -1,0 +1,56 @@
+-- Which sample calls are refused, and with what: an odd count of f32 in any buffer first, then a strobe buffer that is not as long as the output; in both the receiver and the buffers stay. Assumes nothing.
+use mathlib.Core.Path.{_≡_, refl, ap, _∙_}
+use mathlib.Core.Bool.{Bool, true, false, _||_, cond, or-true}
+use mathlib.Core.List.{List}
+use Prim.Native.Nat.{_%_}
+use borrow.Author.Tests.{eq-eqb, ne-eqb}
+use lib.Dec.{eqb}
+use lib.ListN.{length}
+use lib.Ieee.{Float}
+use Rattle.values.specs.declared.error.Refusal.the-variants.{Uneven, Odd}
+use Rattle.timing.specs.Run.{oddEither}
+use Rattle.timing.proofs.Laws.Run.{odd-input, odd-output, both-even}
+use Rattle.receiver.specs.declared.record.Receiver.{Receiver}
+use Rattle.receiver.specs.Call.{Outcome, turnedAway, done, oddAny, called}
+
+-- ---- which counts are odd
+module _ (xs zs ys : List Float) where
+  pub odd-in-input : length xs % 2 ≡ 1 → oddAny xs zs ys ≡ true
+  odd-in-input h = ap (λ (b : Bool). b || eqb (length ys % 2) 1) (odd-input xs zs h)
+
+  pub odd-in-strobes : length zs % 2 ≡ 1 → oddAny xs zs ys ≡ true
+  odd-in-strobes h = ap (λ (b : Bool). b || eqb (length ys % 2) 1) (odd-output xs zs h)
+
+  pub odd-in-output : length ys % 2 ≡ 1 → oddAny xs zs ys ≡ true
+  odd-in-output h = ap (λ (b : Bool). oddEither xs zs || b) (eq-eqb (length ys % 2) 1 h) ∙ or-true (oddEither xs zs)
+
+  pub all-even : (length xs % 2 ≡ 1 → ⊥) → (length zs % 2 ≡ 1 → ⊥) → (length ys % 2 ≡ 1 → ⊥) → oddAny xs zs ys ≡ false
+  all-even h i j = λ a. both-even xs zs h i a || ne-eqb (length ys % 2) 1 j a
+
+-- ---- what a call comes to
+module _ (r : Receiver) (xs zs ys : List Float) where
+  -- by its two tests
+  abbrev by : Bool → Bool → Outcome
+  by odd equal = cond odd (turnedAway Odd r zs ys) (cond equal (done r xs zs ys) (turnedAway Uneven r zs ys))
+
+  pub called-odd : oddAny xs zs ys ≡ true → called r xs zs ys ≡ turnedAway Odd r zs ys
+  unfolding called
+  called-odd h = ap (λ (b : Bool). by b (eqb (length zs) (length ys))) h
+
+  pub called-uneven : oddAny xs zs ys ≡ false → (length zs ≡ length ys → ⊥) → called r xs zs ys ≡ turnedAway Uneven r zs ys
+  unfolding called
+  called-uneven h k = ap (λ (b : Bool). by b (eqb (length zs) (length ys))) h ∙ ap (by false) (ne-eqb (length zs) (length ys) k)
+
+  pub called-done : oddAny xs zs ys ≡ false → length zs ≡ length ys → called r xs zs ys ≡ done r xs zs ys
+  unfolding called
+  called-done h k = ap (λ (b : Bool). by b (eqb (length zs) (length ys))) h ∙ ap (by false) (eq-eqb (length zs) (length ys) k)
+
+  -- a call's number, exactly: 8 if a count is odd, else 7 if the lengths differ, else none
+  pub called-number : called r xs zs ys .number ≡ cond (oddAny xs zs ys) 8 (cond (eqb (length zs) (length ys)) 0 7)
+  unfolding called done
+  called-number = go (oddAny xs zs ys) (eqb (length zs) (length ys))
+    where
+      go : (o e : Bool) → by o e .number ≡ cond o 8 (cond e 0 7)
+      go true e = refl
+      go false true = refl
+      go false false = refl

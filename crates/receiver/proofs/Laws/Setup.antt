@@ -1,0 +1,84 @@
+-- A set-up of the receiver: it is refused exactly if a row is not passed, with the first such row's reason; an accepted one gives the fresh receiver of its values; and it answers what the two loops' set-ups answer, timing's first. Assumes nothing.
+use mathlib.Core.Path.{_≡_, sym, ap, _∙_}
+use Prim.Native.Nat.{ℕ}
+use native.Mathlib.Omega.{arith}
+use Rattle.values.specs.declared.sample.C32.{C32}
+use Rattle.values.specs.declared.error.Refusal.{Refusal}
+use Rattle.timing.specs.Setup.{firstOf, tuned}
+use Rattle.timing.specs.declared.setup.Tuning.{Tuning}
+use Rattle.timing.specs.declared.setup.Tuning.the-variants as tuning
+use Rattle.timing.specs.Sample.{complex}
+use Rattle.timing.specs.Run.{Sync, openedBy}
+use Rattle.timing.specs.Run as run
+use Rattle.timing.proofs.Laws.Rows.{first-append, first-map, rows-passed}
+use Rattle.timing.proofs.Laws.Exactly.{First, first-exactly}
+use Rattle.symbol_sync.specs.declared.complex.SymbolSyncState.{SymbolSyncState}
+use Rattle.symbol_sync.specs.Complex.{sync, stateOf}
+use Rattle.carrier.specs.declared.constellation.CostasConstellation.{CostasConstellation}
+use Rattle.carrier.specs.declared.state.SetUp as carrierAnswer
+use Rattle.carrier.specs.declared.state.SetUp.the-variants as carrierSetUp
+use Rattle.carrier.specs.State as carrier
+use Rattle.receiver.specs.declared.record.Receiver.{Receiver}
+use Rattle.receiver.specs.declared.record.TimingValues.{TimingValues}
+use Rattle.receiver.specs.declared.record.CarrierValues.{CarrierValues}
+use Rattle.receiver.specs.declared.record.SetUp.{SetUp}
+use Rattle.receiver.specs.declared.record.SetUp.the-variants.{Ready, Refused}
+use Rattle.receiver.specs.Record.{timingParams, carrierParamsOf, fresh, timingRows, carrierRows, rows, opened}
+
+-- ---- which set-up is refused
+refused-apart : (r : Receiver) (n : Refusal) → Refused n ≡ Ready r → ⊥
+refused-apart r n e = let z : _≡_ {A = ℕ} 0 1 = cc in absurd (omega arith)
+
+same-reason : (m n : Refusal) → Refused m ≡ Refused n → m ≡ n
+same-reason m n e = cc
+
+-- in both directions, for every number
+pub refused-exactly : (k : CostasConstellation) (t : TimingValues) (c : CarrierValues) (n : Refusal) → (opened k t c ≡ Refused n → First n (rows t c)) × (First n (rows t c) → opened k t c ≡ Refused n)
+unfolding opened
+refused-exactly k t c n = first-exactly Refused (Ready (fresh k (timingParams t) (carrierParamsOf c))) (refused-apart _) same-reason (rows t c) n
+
+-- ---- which is accepted
+same-receiver : (r s : Receiver) → Ready r ≡ Ready s → r ≡ s
+same-receiver r s e = cc
+
+pub opened-is : (k : CostasConstellation) (t : TimingValues) (c : CarrierValues) (r : Receiver) → opened k t c ≡ Ready r → r ≡ fresh k (timingParams t) (carrierParamsOf c)
+unfolding opened
+opened-is k t c r e = let f = fresh k (timingParams t) (carrierParamsOf c) in sym (same-receiver f r (rows-passed Refused (Ready r) (refused-apart r) (rows t c) (Ready f) e .1))
+
+-- ---- what the two set-ups answer, put together
+-- with the timing state s
+abbrev pub withTiming : SymbolSyncState → carrierAnswer.SetUp → SetUp
+withTiming s (carrierSetUp.Ready c) = Ready (record { timing = s; carrier = c; count = 0 })
+withTiming s (carrierSetUp.Refused n) = Refused n
+
+abbrev pub joined : Tuning → carrierAnswer.SetUp → SetUp
+joined (tuning.Accepted p) a = withTiming (stateOf (run.fresh complex p)) a
+joined (tuning.Refused n) a = Refused n
+
+abbrev pub tunedBy : TimingValues → Tuning
+tunedBy t = tuned (t .sps) (t .ted) (t .«loop_bw») (t .damping) (t .«max_deviation») (t .«ted_gain»)
+
+abbrev pub carrierBy : CostasConstellation → CarrierValues → carrierAnswer.SetUp
+carrierBy k c = carrier.opened k (c .«loop_bw») (c .damping) (c .«max_offset»)
+
+pub opened-joined : (k : CostasConstellation) (t : TimingValues) (c : CarrierValues) → opened k t c ≡ joined (tunedBy t) (carrierBy k c)
+unfolding opened tuned carrier.opened
+opened-joined k t c =
+    let p = timingParams t in
+    let q = carrierSetUp.Ready (carrier.fresh k (carrierParamsOf c)) in
+    let a = firstOf carrierSetUp.Refused (carrierRows c) q in
+    first-append Refused (timingRows t) (carrierRows c) (joined (tuning.Accepted p) q)
+    ∙ ap (firstOf Refused (timingRows t)) (sym (first-map (joined (tuning.Accepted p)) carrierSetUp.Refused (carrierRows c) q))
+    ∙ sym (first-map (λ (x : Tuning). joined x a) tuning.Refused (timingRows t) (tuning.Accepted p))
+
+-- ---- by what timing's set-up answered
+same-sync : (s u : Sync C32) → run.opened s ≡ run.opened u → s ≡ u
+same-sync s u e = cc
+
+pub after-ready : (s : SymbolSyncState) (x : Tuning) (a : carrierAnswer.SetUp) → run.opened (sync s) ≡ openedBy complex x → joined x a ≡ withTiming s a
+after-ready s (tuning.Accepted p) a e = ap (λ (u : Sync C32). withTiming (stateOf u) a) (sym (same-sync _ _ e))
+after-ready s (tuning.Refused n) a e = let z : _≡_ {A = ℕ} 0 1 = cc in absurd (omega arith)
+
+pub after-refused : (n : Refusal) (x : Tuning) (a : carrierAnswer.SetUp) → run.refused n ≡ openedBy complex x → joined x a ≡ Refused n
+after-refused n (tuning.Accepted p) a e = let z : _≡_ {A = ℕ} 0 1 = cc in absurd (omega arith)
+after-refused n (tuning.Refused m) a e = let h : m ≡ n = cc in ap Refused h

@@ -1,0 +1,86 @@
+-- `receiver::run` meets its contract: an odd buffer is refused, then lengths that differ, and else the call is what `accepted` ensures. Assumes nothing.
+use mathlib.Core.Path.{_≡_, sym, ap, _∙_, subst}
+use mathlib.Core.Bool.{false}
+use Rattle.values.specs.declared.progress.Answer.the-variants.{Refused}
+use Rattle.values.specs.declared.error.Refusal.{Refusal}
+use Rattle.values.specs.declared.error.Refusal.the-variants.{Uneven, Odd}
+use Rattle.receiver.specs.declared.call.Ran.{Ran}
+use Rattle.receiver.specs.Record.{Given}
+use Rattle.receiver.specs.Call.{Outcome, answered, turnedAway, oddAny, called}
+use Rattle.receiver.proofs.Laws.Refused.{odd-in-input, odd-in-strobes, odd-in-output, all-even, called-odd, called-uneven, called-done}
+use Rattle.receiver.proofs.Laws.Given.{called-given}
+use borrow.Author.Needs.{needs}
+use Rattle.receiver.proofs.call.run.Statement.{statement}
+use Rattle.receiver.proofs.call.run.Tie as tie
+
+-- what the definition makes of the call
+abbrev calledAt : tie.Start → Outcome
+calledAt s = let a = s .args in called (a .r) (a .input .now) (a .strobes .now) (a .output .now)
+
+-- an outcome that is the call's, with its receiver given
+kept : (s : tie.Start) {o : Outcome} → o ≡ calledAt s → (o ≡ calledAt s) × Given (o .receiver)
+kept s e = let a = s .args in (e, subst (λ (q : Outcome). Given (q .receiver)) (sym e) (called-given (a .r) (a .input .now) (a .strobes .now) (a .output .now) (s .pre)))
+
+-- a refusal that the definition gives too
+refuses : (s : tie.Start) (z : Ran) (why : Refusal) → let a = s .args in z ≡ record { answer = Refused why; receiver = a .r } → calledAt s ≡ turnedAway why (a .r) (a .strobes .now) (a .output .now)
+    → (answered z (a .strobes .now) (a .output .now) ≡ calledAt s) × Given (z .receiver)
+refuses s z why e d = let a = s .args in kept s (ap (λ (x : Ran). answered x (a .strobes .now) (a .output .now)) e ∙ sym d)
+
+refused-requires : tie.Need-refused-requires
+refused-requires c κs = search needs
+
+returns : tie.Need-returns
+returns c = let s = c .before .before .before .before .before in let a = s .args in refuses s _ Odd (c .refused .ensures) (called-odd _ _ _ _ (odd-in-input (a .input .now) (a .strobes .now) (a .output .now) (c .before .if1 .taken)))
+
+refused-requires-2 : tie.Need-refused-requires-2
+refused-requires-2 c κs = search needs
+
+returns-2 : tie.Need-returns-2
+returns-2 c = let s = c .before .before .before .before .before .before in let a = s .args in refuses s _ Odd (c .refused2 .ensures) (called-odd _ _ _ _ (odd-in-strobes (a .input .now) (a .strobes .now) (a .output .now) (c .before .if2 .taken)))
+
+refused-requires-3 : tie.Need-refused-requires-3
+refused-requires-3 c κs = search needs
+
+returns-3 : tie.Need-returns-3
+returns-3 c = let s = c .before .before .before .before .before .before .before in let a = s .args in refuses s _ Odd (c .refused3 .ensures) (called-odd _ _ _ _ (odd-in-output (a .input .now) (a .strobes .now) (a .output .now) (c .before .if3 .taken)))
+
+-- past the tests for odd counts
+even : (c : tie.Else3) → let a = c .before .before .before .before .before .before .args in oddAny (a .input .now) (a .strobes .now) (a .output .now) ≡ false
+even c = let a = c .before .before .before .before .before .before .args in all-even (a .input .now) (a .strobes .now) (a .output .now) (c .before .before .if1 .left) (c .before .if2 .left) (c .if3 .left)
+
+refused-requires-4 : tie.Need-refused-requires-4
+refused-requires-4 c κs = search needs
+
+returns-4 : tie.Need-returns-4
+returns-4 c = refuses (c .before .before .before .before .before .before .before .before) _ Uneven (c .refused4 .ensures) (called-uneven _ _ _ _ (even (c .before .before)) (c .before .if4 .taken))
+
+accepted-requires : tie.Need-accepted-requires
+accepted-requires c κs = search needs
+
+same-length : tie.Need-same-length
+same-length c = search needs
+
+same-length-2 : tie.Need-same-length-2
+same-length-2 c = search needs
+
+returns-5 : tie.Need-returns-5
+returns-5 c =
+    let t = c .before .before .before .before .before .before .before in
+    kept (t .before .before .before .before .before .before .before) (c .before .before .before .before .accepted .ensures ∙ sym (called-done _ _ _ _ (even (t .before)) (t .if4 .left)))
+
+pub run-spec : {M : Type 1} → statement M
+run-spec =
+    tie.close
+    (tie.spec
+    refused-requires
+    returns
+    refused-requires-2
+    returns-2
+    refused-requires-3
+    returns-3
+    refused-requires-4
+    returns-4
+    accepted-requires
+    same-length
+    same-length-2
+    returns-5)

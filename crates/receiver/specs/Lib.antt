@@ -1,0 +1,4 @@
+pub mod Record
+pub mod Symbol
+pub mod Call
+pub mod Calls

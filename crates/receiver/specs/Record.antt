@@ -1,0 +1,75 @@
+-- The receiver record: which set-up is refused, which record a set-up, a reset or the phase setting gives, and what holds of every such record. Definitions only.
+use mathlib.Core.Path.{_≡_}
+use Prim.Native.Nat.{ℕ, _<_, _^_}
+use mathlib.Core.Bool.{true}
+use mathlib.Core.List.{List, _++_}
+use lib.Dec.{T}
+use Rattle.timing.specs.Gains.{kpOf, kiOf}
+use Rattle.timing.specs.Setup.{Row, firstOf, paramsWith}
+use Rattle.timing.specs.Setup as timing
+use Rattle.timing.specs.Sample.{complex}
+use Rattle.timing.specs.declared.params.Params.{Params}
+use Rattle.timing.specs.Run as run
+use Rattle.symbol_sync.specs.Complex.{sync, stateOf}
+use Rattle.carrier.specs.declared.constellation.CostasConstellation.{CostasConstellation}
+use Rattle.carrier.specs.declared.constellation.CostasConstellation.the-variants.{Bpsk}
+use Rattle.carrier.specs.declared.params.Params as carrierParams
+use Rattle.carrier.specs.State as carrier
+use Rattle.receiver.specs.declared.record.Receiver.{Receiver}
+use Rattle.receiver.specs.declared.record.TimingValues.{TimingValues}
+use Rattle.receiver.specs.declared.record.CarrierValues.{CarrierValues}
+use Rattle.receiver.specs.declared.record.SetUp.{SetUp}
+use Rattle.receiver.specs.declared.record.SetUp.the-variants.{Ready, Refused}
+
+-- "Set up without a constellation it takes BPSK, the source's default."
+abbrev pub unnamed : CostasConstellation
+unnamed = Bpsk
+
+-- what the two loops make of their values
+abbrev pub timingParams : TimingValues → Params
+timingParams t = paramsWith (t .sps) (t .ted) (t .«loop_bw») (t .damping) (t .«max_deviation») (t .«ted_gain») (kpOf (t .sps) (t .«loop_bw») (t .damping) (t .«ted_gain»)) (kiOf (t .sps) (t .«loop_bw») (t .damping) (t .«ted_gain»))
+
+abbrev pub carrierParamsOf : CarrierValues → carrierParams.Params
+carrierParamsOf c = carrier.paramsOf (c .«loop_bw») (c .damping) (c .«max_offset»)
+
+-- both loops fresh, and no symbol counted
+abbrev pub fresh : CostasConstellation → Params → carrierParams.Params → Receiver
+fresh k p q = record { timing = stateOf (run.fresh complex p); carrier = carrier.fresh k q; count = 0 }
+
+-- "Timing is set up first, all its checks before any of the carrier's."
+abbrev pub timingRows : TimingValues → List Row
+timingRows t = timing.rows (t .sps) (t .«loop_bw») (t .damping) (t .«max_deviation») (t .«ted_gain»)
+
+abbrev pub carrierRows : CarrierValues → List Row
+carrierRows c = carrier.rows (c .«loop_bw») (c .damping) (c .«max_offset»)
+
+abbrev pub rows : TimingValues → CarrierValues → List Row
+rows t c = timingRows t ++ carrierRows c
+
+-- a set-up's answer: "A refused set-up yields its number and no state."
+unfoldable pub opened : CostasConstellation → TimingValues → CarrierValues → SetUp
+opened k t c = firstOf Refused (rows t c) (Ready (fresh k (timingParams t) (carrierParamsOf c)))
+
+-- "A reset resets both loops and clears the count."
+abbrev pub restarted : Receiver → Receiver
+restarted r = fresh (r .carrier .constellation) (r .timing .params) (r .carrier .params)
+
+-- "The carrier's phase can be set here too."
+abbrev pub phaseSet : Receiver → ℕ → Receiver
+phaseSet r phase = record { timing = r .timing; carrier = carrier.phaseSet (r .carrier) phase; count = r .count }
+
+-- the values that a receiver was set up with, which nothing changes after that
+pub record SetUpWith (k : CostasConstellation) (t : TimingValues) (c : CarrierValues) (r : Receiver) : Type 0 where
+  pub constellation : r .carrier .constellation ≡ k
+  pub timing : r .timing .params ≡ timingParams t
+  pub carrier : r .carrier .params ≡ carrierParamsOf c
+
+-- ---- a record that a set-up, a reset, the phase setting or a run has given: all that a public call requires
+pub record Given (r : Receiver) : Type 0 where
+  pub timing : run.Given (sync (r .timing))
+  pub carrier : carrier.Given (r .carrier)
+  pub count-in : r .count < 2 ^ 32
+
+abbrev pub SetUpGiven : SetUp → Type 0
+SetUpGiven (Ready r) = Given r
+SetUpGiven (Refused n) = T true

@@ -1,0 +1,19 @@
+-- "Symbol numbers". Definitions only.
+use Prim.Native.Nat.{ℕ, _/_}
+use mathlib.Core.Bool.{_&&_, _||_, cond}
+use lib.Ieee.{lt, eq}
+use Rattle.ieee.specs.Constants.{zero₀}
+use Rattle.values.specs.declared.sample.C32.{C32}
+use Rattle.carrier.specs.declared.constellation.CostasConstellation.{CostasConstellation}
+use Rattle.carrier.specs.declared.constellation.CostasConstellation.the-variants.{Bpsk, Qpsk, Psk8}
+use Rattle.carrier.specs.Octant.{octantOf}
+
+-- "BPSK 1 if re is negative, or zero with im negative, else 0."
+unfoldable pub bpskOf : C32 → ℕ
+bpskOf y = cond (lt (y .re) zero₀ || (eq (y .re) zero₀ && lt (y .im) zero₀)) 1 0
+
+-- "8-PSK: the octant 0 to 7 of `octant`; QPSK: half of that octant, rounded down."
+unfoldable pub symbolOf : CostasConstellation → C32 → ℕ
+symbolOf Bpsk y = bpskOf y
+symbolOf Qpsk y = octantOf y / 2
+symbolOf Psk8 y = octantOf y

@@ -1,0 +1,183 @@
+// The receiver record, its set-up, reset, phase setting and readings.
+use carrier::CostasConstellation;
+use carrier::CostasState;
+use symbol_sync::complex;
+use symbol_sync::complex::SymbolSyncState;
+use timing::Ted;
+use values::Refusal;
+ghost use mathlib.Core.Path.{_≡_};
+ghost use Rattle.timing.specs.Clock.{nextStrobe};
+ghost use Rattle.receiver.specs.Record.{unnamed, opened, restarted, phaseSet, Given, SetUpGiven};
+
+// Both loops, and how many symbols were produced since the set-up or the last reset.
+pub struct Receiver {
+    pub timing: SymbolSyncState,
+    // The constellation stands in it.
+    pub carrier: CostasState,
+    // It stops at the top of its 32 bits.
+    pub count: u32,
+}
+
+// What the timing loop is set up with.
+pub struct TimingValues {
+    // Samples per symbol.
+    pub sps: f64,
+    pub ted: Ted,
+    // Loop bandwidth, normalized to the symbol rate.
+    pub loop_bw: f64,
+    pub damping: f64,
+    // Largest deviation of the spacing from sps, as a fraction of sps.
+    pub max_deviation: f64,
+    // Slope of the detector.
+    pub ted_gain: f64,
+}
+
+// What the carrier loop is set up with, but for its constellation.
+pub struct CarrierValues {
+    // Loop bandwidth, normalized to the symbol rate.
+    pub loop_bw: f64,
+    pub damping: f64,
+    // Largest frequency offset, in cycles per symbol.
+    pub max_offset: f64,
+}
+
+// The answer of a set-up.
+pub enum SetUp {
+    Ready(Receiver),
+    Refused(Refusal),
+}
+
+// ---- Set-up
+
+// A fresh receiver, or the number of what is wrong: all of timing's checks come before any of the
+// carrier's.
+pub fn set_up(constellation: CostasConstellation, t: TimingValues, c: CarrierValues) -> SetUp
+    ensures outcome { λ r. ⌜ r ≡ opened constellation t c ⌝ }
+    ensures given { λ r. ⌜ SetUpGiven r ⌝ }
+{
+    let ted = t.ted;
+    let answer = complex::set_up(
+        t.sps,
+        ted,
+        t.loop_bw,
+        t.damping,
+        t.max_deviation,
+        t.ted_gain,
+    );
+    match answer {
+        complex::SetUp::Ready(timing) => {
+            let answer = carrier::set_up(constellation, c.loop_bw, c.damping, c.max_offset);
+            match answer {
+                carrier::SetUp::Ready(carrier) => {
+                    let receiver = Receiver {
+                        timing: timing,
+                        carrier: carrier,
+                        count: 0,
+                    };
+                    SetUp::Ready(receiver)
+                }
+                carrier::SetUp::Refused(n) => SetUp::Refused(n),
+            }
+        }
+        complex::SetUp::Refused(n) => SetUp::Refused(n),
+    }
+}
+
+// A set-up that names no constellation takes BPSK, the source's default.
+pub fn set_up_unnamed(t: TimingValues, c: CarrierValues) -> SetUp
+    ensures outcome { λ r. ⌜ r ≡ opened unnamed t c ⌝ }
+    ensures given { λ r. ⌜ SetUpGiven r ⌝ }
+{
+    set_up(CostasConstellation::Bpsk, t, c)
+}
+
+// Resets both loops and clears the count.
+pub fn reset(r: Receiver) -> Receiver
+    requires { ⌜ Given r ⌝ }
+    ensures state { λ z. ⌜ z ≡ restarted r ⌝ }
+    ensures given { λ z. ⌜ Given z ⌝ }
+{
+    let t = r.timing;
+    let c = r.carrier;
+    Receiver {
+        timing: complex::reset(t),
+        carrier: carrier::reset(c),
+        count: 0,
+    }
+}
+
+// Sets the carrier's phase, in units of 2^-32 turn.
+pub fn set_phase(r: Receiver, phase: u32) -> Receiver
+    requires { ⌜ Given r ⌝ }
+    ensures state { λ z. ⌜ z ≡ phaseSet r phase ⌝ }
+    ensures given { λ z. ⌜ Given z ⌝ }
+{
+    let t = r.timing;
+    let c = r.carrier;
+    Receiver {
+        timing: t,
+        carrier: carrier::set_phase(c, phase),
+        count: r.count,
+    }
+}
+
+// ---- Readings
+
+impl Receiver {
+    // The instant of the next strobe in input samples, counted from the first sample of the next
+    // call's input. It is negative while the strobe lies in the history.
+    pub fn next_strobe(self) -> f64
+        ensures { λ r. ⌜ r ≡ nextStrobe (self .timing .track .clock) ⌝ }
+    {
+        self.timing.track.clock.next_strobe()
+    }
+
+    // The pace: the current estimate of the samples per symbol.
+    pub fn sps_estimate(self) -> f64
+        ensures { λ r. ⌜ r ≡ self .timing .track .clock .omega ⌝ }
+    {
+        self.timing.track.clock.sps_estimate()
+    }
+
+    // The carrier's frequency, in cycles per symbol.
+    pub fn frequency(self) -> f64
+        ensures { λ r. ⌜ r ≡ self .carrier .track .nco .freq ⌝ }
+    {
+        self.carrier.frequency()
+    }
+
+    // The carrier's phase before the next symbol, in units of 2^-32 turn.
+    pub fn phase(self) -> u32
+        ensures { λ r. ⌜ r ≡ self .carrier .track .nco .phase ⌝ }
+    {
+        self.carrier.phase()
+    }
+
+    // The smoothed lock measure.
+    pub fn lock_level(self) -> f32
+        ensures { λ r. ⌜ r ≡ self .carrier .track .lock .level ⌝ }
+    {
+        self.carrier.lock_level()
+    }
+
+    // Whether the lock detector reports lock.
+    pub fn locked(self) -> bool
+        ensures { λ r. ⌜ r ≡ self .carrier .track .lock .locked ⌝ }
+    {
+        self.carrier.locked()
+    }
+
+    // The constellation.
+    pub fn constellation(self) -> CostasConstellation
+        ensures { λ r. ⌜ r ≡ self .carrier .constellation ⌝ }
+    {
+        self.carrier.constellation()
+    }
+
+    // How many symbols were produced since the set-up or the last reset, up to the top of 32 bits.
+    pub fn count(self) -> u32
+        ensures { λ r. ⌜ r ≡ self .count ⌝ }
+    {
+        self.count
+    }
+}
