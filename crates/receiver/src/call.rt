@@ -10,7 +10,7 @@ ghost use lib.ListN.{length};
 ghost use Rattle.values.specs.Answer as answers;
 ghost use Rattle.values.specs.declared.progress.Answer.the-variants.{Refused};
 ghost use Rattle.receiver.specs.Record.{Given};
-ghost use Rattle.receiver.specs.Call.{held, done, called, answered};
+ghost use Rattle.receiver.specs.Call.{held, done, called, outcomeOf, answered};
 
 // The largest symbol count.
 const TOP: u32 = 4294967295;
@@ -100,4 +100,15 @@ pub fn run(r: Receiver, input: &[f32], strobes: &mut [f32], output: &mut [f32]) 
         return refused(Refusal::Uneven, r);
     }
     accepted(r, input, strobes, output)
+}
+
+// The entry over a receiver that the caller lends, which is brought up to date.
+pub fn receive(r: &mut Receiver, input: &[f32], strobes: &mut [f32], output: &mut [f32]) -> Answer
+    requires { ⌜ Given (now r) ⌝ }
+    ensures outcome { λ a. ⌜ outcomeOf a (now (r .exit)) (now (strobes .exit)) (now (output .exit)) ≡ called (now (r .entry)) (now (input .entry)) (now (strobes .entry)) (now (output .entry)) ⌝ }
+    ensures given { λ _. ⌜ Given (now (r .exit)) ⌝ }
+{
+    let ran = run(*r, input, strobes, output);
+    *r = ran.receiver;
+    ran.answer
 }

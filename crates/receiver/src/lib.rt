@@ -6,6 +6,7 @@ mod record;
 mod symbol;
 
 pub use call::Ran;
+pub use call::receive;
 pub use call::run;
 pub use record::CarrierValues;
 pub use record::Receiver;

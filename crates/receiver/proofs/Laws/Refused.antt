@@ -1,7 +1,7 @@
 -- Which sample calls are refused, and with what: an odd count of f32 in any buffer first, then a strobe buffer that is not as long as the output; in both the receiver and the buffers stay. Assumes nothing.
 use mathlib.Core.Path.{_≡_, refl, ap, _∙_}
 use mathlib.Core.Bool.{Bool, true, false, _||_, cond, or-true}
-use mathlib.Core.List.{List}
+use mathlib.Core.List.{List, []}
 use Prim.Native.Nat.{_%_}
 use borrow.Author.Tests.{eq-eqb, ne-eqb}
 use lib.Dec.{eqb}
@@ -54,3 +54,7 @@ module _ (r : Receiver) (xs zs ys : List Float) where
       go true e = refl
       go false true = refl
       go false false = refl
+
+-- "Empty buffers are accepted."
+pub empty-accepted : (r : Receiver) → called r [] [] [] .number ≡ 0
+empty-accepted r = called-number r [] [] []

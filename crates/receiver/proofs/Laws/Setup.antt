@@ -2,9 +2,12 @@
 use mathlib.Core.Path.{_≡_, sym, ap, _∙_}
 use Prim.Native.Nat.{ℕ}
 use native.Mathlib.Omega.{arith}
+use lib.Dec.{T}
+use lib.Ieee.{neg, le, round}
+use Rattle.ieee.specs.Constants.{zero₀}
 use Rattle.values.specs.declared.sample.C32.{C32}
 use Rattle.values.specs.declared.error.Refusal.{Refusal}
-use Rattle.timing.specs.Setup.{firstOf, tuned}
+use Rattle.timing.specs.Setup.{decimal, inRange, firstOf, tuned}
 use Rattle.timing.specs.declared.setup.Tuning.{Tuning}
 use Rattle.timing.specs.declared.setup.Tuning.the-variants as tuning
 use Rattle.timing.specs.Sample.{complex}
@@ -36,6 +39,11 @@ same-reason m n e = cc
 pub refused-exactly : (k : CostasConstellation) (t : TimingValues) (c : CarrierValues) (n : Refusal) → (opened k t c ≡ Refused n → First n (rows t c)) × (First n (rows t c) → opened k t c ≡ Refused n)
 unfolding opened
 refused-exactly k t c n = first-exactly Refused (Ready (fresh k (timingParams t) (carrierParamsOf c))) (refused-apart _) same-reason (rows t c) n
+
+-- a deviation and an offset of minus zero pass their rows
+pub minus-zero-passes : T (inRange zero₀ (neg zero₀) (decimal 5 100)) × T (inRange zero₀ (neg zero₀) (decimal 25 100))
+unfolding inRange neg le round
+minus-zero-passes = (tt, tt)
 
 -- ---- which is accepted
 same-receiver : (r s : Receiver) → Ready r ≡ Ready s → r ≡ s

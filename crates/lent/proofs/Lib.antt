@@ -1,0 +1,4 @@
+pub mod Entry
+pub mod Outputs
+pub mod Locals
+pub mod Lent
