@@ -9,7 +9,7 @@
 //
 // `values` has the three words of the next set-up, and how many f32 were put into the input and how
 // many of the output were compared.
-use crate::bits::f32_of;
+use patterns::f32_of;
 use crate::line::Operation;
 use crate::words::high;
 use crate::words::low;

@@ -3,8 +3,8 @@ ghost use mathlib.Core.Path.{_≡_};
 ghost use lib.Dec.{eqb};
 ghost use lib.Ieee.{binary32, binary64, toBits};
 ghost use Rattle.ieee.specs.Alike.{sameNumber};
-use crate::bits::f32_bits;
-use crate::bits::f64_bits;
+use patterns::f32_bits;
+use patterns::f64_bits;
 
 // Whether x and y have the same bits or are both NaN. The two zeros differ.
 pub fn same_f32(x: f32, y: f32) -> bool

@@ -1,7 +1,6 @@
 // What the programs that replay recorded answers share: reading hexadecimal words, floats and their
 // bit patterns, comparing floats, and writing counts; and for recorded calls, which are played in order
 // on one state, the buffers and the tally.
-mod bits;
 pub mod buffers;
 mod compare;
 mod hex;
@@ -10,10 +9,10 @@ mod report;
 pub mod tally;
 mod words;
 
-pub use bits::f32_bits;
-pub use bits::f32_of;
-pub use bits::f64_bits;
-pub use bits::f64_of;
+pub use patterns::f32_bits;
+pub use patterns::f32_of;
+pub use patterns::f64_bits;
+pub use patterns::f64_of;
 pub use compare::alike_f32;
 pub use compare::alike_f64;
 pub use compare::same_f32;

@@ -1,0 +1,69 @@
+// The symbols that are sent, and where the carrier stands.
+use values::C32;
+ghost use mathlib.Core.Path.{_≡_};
+ghost use Rattle.make_recording.specs.Source.{stepped, pointOf, started, nextOf};
+
+// The generator's state before the first symbol.
+const SEED: u32 = 1;
+
+// The carrier's phase at the first sample, in units of 2^-32 turn: a twelfth of a turn.
+const START_PHASE: u32 = 357913941;
+
+// What the phase grows by from sample to sample: 0.0005 of a turn, which is 0.002 of a turn a symbol.
+pub const PHASE_STEP: u32 = 2147484;
+
+// The generator's state, the symbol that is left, the one that comes, and the phase of the next sample.
+pub struct Source {
+    pub state: u32,
+    pub from: C32,
+    pub to: C32,
+    pub phase: u32,
+}
+
+// The generator's next state.
+fn step(state: u32) -> u32
+    ensures { λ r. ⌜ r ≡ stepped state ⌝ }
+{
+    ((1664525 * (state as u64) + 1013904223) % 4294967296) as u32
+}
+
+// The symbol of a state. Its top two bits are the number: 0 is (1, 1), and each next one is a quarter
+// turn on.
+fn point(state: u32) -> C32
+    ensures { λ r. ⌜ r ≡ pointOf state ⌝ }
+{
+    let number = state / 1073741824;
+    match number {
+        0 => C32 { re: 1.0, im: 1.0 },
+        1 => C32 { re: -1.0, im: 1.0 },
+        2 => C32 { re: -1.0, im: -1.0 },
+        _ => C32 { re: 1.0, im: -1.0 },
+    }
+}
+
+// The first symbol comes out of silence.
+pub fn start() -> Source
+    ensures { λ r. ⌜ r ≡ started ⌝ }
+{
+    let state = step(SEED);
+    Source {
+        state: state,
+        from: C32 { re: 0.0, im: 0.0 },
+        to: point(state),
+        phase: START_PHASE,
+    }
+}
+
+// A symbol on.
+pub fn next(s: Source) -> Source
+    ensures { λ r. ⌜ r ≡ nextOf s ⌝ }
+{
+    let state = step(s.state);
+    let from = s.to;
+    Source {
+        state: state,
+        from: from,
+        to: point(state),
+        phase: std::num::wrapping_add_u32(s.phase, 4 * PHASE_STEP),
+    }
+}

@@ -1,0 +1,25 @@
+-- No call on a block of whole samples is refused. Assumes nothing.
+use mathlib.Core.Path.{_≡_, refl, ap, _∙_}
+use mathlib.Core.Bool.{Bool, true, false, cond}
+use mathlib.Core.List.{List}
+use Prim.Native.Nat.{ℕ, zero, suc, _-_, _*_, _%_}
+use native.Mathlib.Omega.{arith}
+use lib.ListN.{length, length-drop, drop}
+use lib.Ieee.{Float}
+use Rattle.receiver.specs.declared.record.Receiver.{Receiver}
+use Rattle.receiver.proofs.Laws.Refused.{all-even, called-number}
+use Rattle.receive_recording.specs.Block.{places, callOn, final, received}
+
+call-accepted : (r : Receiver) (xs : List Float) → length xs % 2 ≡ 0 → callOn r xs .number ≡ 0
+call-accepted r xs even = called-number r xs places places ∙ ap (λ (b : Bool). cond b 8 0) (all-even xs places places (λ e. omega arith) (λ e. omega arith) (λ e. omega arith))
+
+pub block-accepted : (n : ℕ) (r : Receiver) (xs : List Float) → length xs % 2 ≡ 0 → received n r xs .number ≡ 0
+unfolding received
+block-accepted zero r xs even = refl
+block-accepted (suc n) r xs even =
+    let o = callOn r xs in
+    by (final xs o) (block-accepted n (o .receiver) (drop (2 * o .consumed) xs) (rw length-drop (omega arith)))
+  where
+    by : (b : Bool) → received n (callOn r xs .receiver) (drop (2 * callOn r xs .consumed) xs) .number ≡ 0 → cond b (record { receiver = callOn r xs .receiver; number = callOn r xs .number }) (received n (callOn r xs .receiver) (drop (2 * callOn r xs .consumed) xs)) .number ≡ 0
+    by true e = call-accepted r xs even
+    by false e = e

@@ -1,0 +1,6 @@
+-- The laws of this crate.
+pub mod Stores
+pub mod LittleEndian
+pub mod Floats
+pub mod Digits
+pub mod Lines

@@ -1,0 +1,4 @@
+pub mod Bytes
+pub mod Samples
+pub mod Text
+pub mod Thousandths

@@ -1,0 +1,24 @@
+-- Symbols as text: a digit for each, in lines of 64. Definitions only.
+use Prim.Native.Nat.{ℕ, _+_, _%_}
+use mathlib.Core.Bool.{cond}
+use mathlib.Core.List.{List, [], _∷_, map}
+use lib.Dec.{eqb}
+use lib.ListN.{take}
+use lib.Ieee.{Float}
+use Rattle.values.specs.declared.sample.C32.{C32}
+use Rattle.values.specs.Samples.{samples}
+use Rattle.carrier.specs.declared.constellation.CostasConstellation.{CostasConstellation}
+use Rattle.receiver.specs.Symbol.{symbolOf}
+
+-- the digit of a symbol's number, in ASCII
+abbrev pub digitOf : CostasConstellation → C32 → ℕ
+digitOf k y = 48 + symbolOf k y
+
+-- the digits of the first n samples of an output
+abbrev pub digits : CostasConstellation → List Float → ℕ → List ℕ
+digits k ys n = map (digitOf k) (take n (samples ys))
+
+-- digits of which n stand in the text already: a line end (10) follows every 64th
+unfoldable pub lined : ℕ → List ℕ → List ℕ
+lined n [] = []
+lined n (d ∷ ds) = cond (eqb (n % 64) 63) (d ∷ 10 ∷ lined (n + 1) ds) (d ∷ lined (n + 1) ds)

@@ -1,0 +1,15 @@
+// Recordings as bytes and symbols as text: complex f32 samples from little-endian bytes and back, the
+// digits of symbols, laid out in lines, and a number in thousandths. Nothing here requires anything.
+mod bytes;
+mod decimals;
+mod digits;
+mod lines;
+mod samples;
+
+pub use bytes::little_endian;
+pub use decimals::thousandths;
+pub use digits::write_digits;
+pub use lines::WIDTH;
+pub use lines::write_lines;
+pub use samples::read_samples;
+pub use samples::write_samples;
