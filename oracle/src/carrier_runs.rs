@@ -5,10 +5,10 @@ use crate::bits::{SENTINEL, bits64, fresh_output};
 use crate::error::Error;
 use crate::fields::constellation_code;
 use crate::kernels::costas::{Costas, CostasConstellation, CostasState};
-use crate::lines::wide;
 use crate::random::Random;
 use crate::script::{Script, agreed, flat, halves, number};
 use crate::signal::Signal;
+use crate::states;
 use crate::types::C32;
 use crate::{Fallback, Reference};
 
@@ -18,6 +18,11 @@ mod lock;
 mod odd;
 mod set_ups;
 mod setters;
+
+pub use chains::{BANDWIDTHS, DAMPINGS, OFFSETS};
+pub use lock::{edges, on_the_axes};
+pub use odd::PARTS;
+pub use set_ups::{listed, ordinary};
 
 /// The random numbers are the same every time.
 const SEED: u64 = 20_261_117;
@@ -63,16 +68,16 @@ fn recorded_by<K: Costas>(kernel: K) -> String {
 
 /// The values of a set-up.
 #[derive(Clone, Copy, Debug)]
-struct Values {
-    points: CostasConstellation,
-    bandwidth: f64,
-    damping: f64,
-    offset: f64,
+pub struct Values {
+    pub points: CostasConstellation,
+    pub bandwidth: f64,
+    pub damping: f64,
+    pub offset: f64,
 }
 
 impl Values {
     /// What the original makes of them.
-    fn set_up(self) -> Result<CostasState, Error> {
+    pub fn set_up(self) -> Result<CostasState, Error> {
         CostasState::new(self.points, self.bandwidth, self.damping, self.offset)
     }
 }
@@ -102,31 +107,9 @@ impl<K: Costas> Recorder<K> {
         self.set_up(values).expect("values inside their ranges")
     }
 
-    /// Every field, and the reading of the frequency. The state is taken apart field by field, so
-    /// that a field left out would not compile.
+    /// Every field.
     fn state(&mut self, s: &CostasState) {
-        let CostasState {
-            constellation,
-            loop_bw,
-            damping,
-            max_offset,
-            kp,
-            ki,
-            max,
-            phase,
-            freq,
-            level,
-            locked,
-        } = *s;
-        let [loop_bw, damping, max_offset] = [loop_bw, damping, max_offset].map(bits64);
-        let points = u64::from(constellation_code(constellation));
-        let frequency = bits64(s.frequency());
-        self.script.line('a', loop_bw, damping, max_offset);
-        self.script.line('k', wide(kp), wide(ki), wide(max));
-        self.script
-            .line('s', u64::from(phase), wide(freq), frequency);
-        self.script
-            .line('l', wide(level), u64::from(locked), points);
+        states::carrier(&mut self.script, s, ['a', 'k', 's', 'l']);
     }
 
     fn reset(&mut self, s: &mut CostasState) {

@@ -20,12 +20,14 @@ mod numbers;
 mod oscillator;
 mod play;
 mod random;
+mod receiver_runs;
 mod refusal;
 mod runs;
 mod script;
 mod signal;
 #[cfg(feature = "ported")]
 mod speed;
+mod states;
 
 /// The original's first implementation, the one that is ported.
 pub struct Fallback;
@@ -39,6 +41,7 @@ usage: oracle play [--reference] SCRIPT   plays a script ('-' reads standard inp
        oracle oscillator                  writes those of the oscillator and the phase steps
        oracle runs                        writes those of the timing loop
        oracle carrier                     writes those of the carrier loop
+       oracle receiver                    writes those of the receiver
        oracle record FOLDER               writes all recorded answers, FOLDER/NAME/stdin each
        oracle speed                       times the ported loops (feature 'ported')";
 
@@ -46,10 +49,11 @@ usage: oracle play [--reference] SCRIPT   plays a script ('-' reads standard inp
 type Make = fn() -> String;
 
 /// Recorded answers: the folder that each file goes to, and what makes it.
-const RECORDED: [(&str, Make); 3] = [
+const RECORDED: [(&str, Make); 4] = [
     ("operations_replay", operations),
     ("timing_replay", runs::recorded),
     ("carrier_replay", carrier_runs::recorded),
+    ("receiver_replay", receiver_runs::recorded),
 ];
 
 /// The recorded answers of all operations that are one line each.
@@ -68,6 +72,7 @@ fn main() -> ExitCode {
         ["oscillator"] => write_out(&oscillator::recorded()),
         ["runs"] => write_out(&runs::recorded()),
         ["carrier"] => write_out(&carrier_runs::recorded()),
+        ["receiver"] => write_out(&receiver_runs::recorded()),
         ["record", folder] => record(Path::new(folder)),
         #[cfg(feature = "ported")]
         ["speed"] => tell(&speed::speed()),

@@ -7,13 +7,17 @@ use crate::fields::ted_code;
 use crate::kernels::symbol_sync::{SymbolSync, SymbolSyncState, Ted};
 use crate::play::Kernel;
 use crate::random::Random;
-use crate::script::{Script, agreed, flat, halves, number, pair};
+use crate::script::{Script, agreed, flat, halves, number};
 use crate::signal::Signal;
+use crate::states;
 use crate::types::C32;
 use crate::{Fallback, Reference, timing::Progress};
 
 mod chains;
 mod set_ups;
+
+pub use chains::{DEVIATIONS, GAINS, LENGTHS, LONGEST, PACES, PLACES};
+pub use set_ups::{listed, ordinary};
 
 /// The random numbers are the same every time.
 const SEED: u64 = 20_261_116;
@@ -42,18 +46,18 @@ fn recorded_by<K: Kernel>(kernel: K) -> String {
 
 /// The six values of a set-up.
 #[derive(Clone, Copy, Debug)]
-struct Values {
-    sps: f64,
-    detector: Ted,
-    bandwidth: f64,
-    damping: f64,
-    deviation: f64,
-    gain: f64,
+pub struct Values {
+    pub sps: f64,
+    pub detector: Ted,
+    pub bandwidth: f64,
+    pub damping: f64,
+    pub deviation: f64,
+    pub gain: f64,
 }
 
 impl Values {
     /// What the original makes of them.
-    fn set_up<T: Parts>(self) -> Result<SymbolSyncState<T>, Error> {
+    pub fn set_up<T: Parts>(self) -> Result<SymbolSyncState<T>, Error> {
         SymbolSyncState::new(
             self.sps,
             self.detector,
@@ -63,12 +67,6 @@ impl Values {
             self.gain,
         )
     }
-}
-
-/// A sample in one word, its first part in the high half.
-fn word<T: Parts>(sample: T) -> u64 {
-    let second = if T::COUNT == 1 { 0.0 } else { sample.part(1) };
-    pair(sample.part(0), second)
 }
 
 /// Records what an implementation answers.
@@ -95,30 +93,8 @@ impl<K> Recorder<K> {
             .line('v', bits64(sps), bits64(bandwidth), bits64(damping));
         self.script.line('n', bits64(deviation), bits64(gain), all);
         let state = made.ok()?;
-        self.state(&state);
+        states::timing(&mut self.script, &state);
         Some(state)
-    }
-
-    /// Every field: the parameters, the gains and the limit, and what a run may change; and the
-    /// two readings.
-    fn state<T: Parts>(&mut self, s: &SymbolSyncState<T>) {
-        let (sps, bandwidth, damping) = (s.sps(), s.loop_bw(), s.damping());
-        let (deviation, gain) = (s.max_deviation(), s.ted_gain());
-        let detector = u64::from(ted_code(s.ted()));
-        let [first, second, third] = s.hist;
-        let flags = u64::from(s.mid_ready) + 2 * u64::from(s.started);
-        assert_eq!(bits64(s.omega), bits64(s.sps_estimate()));
-        for (letter, [x, y, z]) in [
-            ('a', [bits64(sps), bits64(bandwidth), bits64(damping)]),
-            ('b', [bits64(deviation), bits64(gain), detector]),
-            ('k', [bits64(s.kp), bits64(s.ki), bits64(s.lim)]),
-            ('s', [s.i as u64, bits64(s.mu), bits64(s.omega)]),
-            ('h', [word(first), word(second), word(third)]),
-            ('y', [word(s.y_prev), word(s.d_prev), word(s.mid)]),
-            ('f', [bits64(s.integ), flags, bits64(s.next_strobe())]),
-        ] {
-            self.script.line(letter, x, y, z);
-        }
     }
 
     /// A run; gives the samples consumed.
@@ -134,7 +110,7 @@ impl<K> Recorder<K> {
         self.script
             .line('r', lengths, halves(consumed, produced), 0);
         self.script.output(&flat(&output));
-        self.state(s);
+        states::timing(&mut self.script, s);
         consumed
     }
 
@@ -144,13 +120,13 @@ impl<K> Recorder<K> {
         self.script.input(floats);
         self.script.line('r', halves(floats.len(), places), 0, 8);
         self.script.output(&vec![SENTINEL; places]);
-        self.state(s);
+        states::timing(&mut self.script, s);
     }
 
     fn reset<T: Parts>(&mut self, s: &mut SymbolSyncState<T>) {
         s.reset();
         self.script.line('z', 0, 0, 0);
-        self.state(s);
+        states::timing(&mut self.script, s);
     }
 }
 

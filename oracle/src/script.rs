@@ -55,9 +55,19 @@ impl Script {
 
     /// The output of the last run, and the filling behind it.
     pub fn output(&mut self, floats: &[f32]) {
+        self.lent('o', floats);
+    }
+
+    /// The strobe buffer of the last run, and the filling behind it.
+    pub fn strobes(&mut self, floats: &[f32]) {
+        self.lent('t', floats);
+    }
+
+    /// What a lent buffer holds, and the filling behind it.
+    fn lent(&mut self, letter: char, floats: &[f32]) {
         let mut all = floats.to_vec();
         all.push(SENTINEL);
-        self.floats('o', &all);
+        self.floats(letter, &all);
     }
 
     /// Six f32 a line, with the filling behind the last.

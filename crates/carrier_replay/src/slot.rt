@@ -1,10 +1,10 @@
 // The state that the lines are played on, and its set-up.
 use crate::state;
-use carrier::CostasConstellation;
 use carrier::CostasState;
 use carrier::SetUp;
 use replay::Operation;
 use replay::words_agree;
+use replay_states::constellation_of;
 ghost use Rattle.carrier.specs.State.{SetUpGiven};
 ghost use Rattle.carrier_replay.specs.Slot.{SlotGiven};
 
@@ -12,17 +12,6 @@ ghost use Rattle.carrier_replay.specs.Slot.{SlotGiven};
 pub enum Slot {
     Empty,
     Ready(CostasState),
-}
-
-// The constellation of a number up to 2.
-fn constellation(code: u64) -> CostasConstellation {
-    if code == 0 {
-        CostasConstellation::Bpsk
-    } else if code == 1 {
-        CostasConstellation::Qpsk
-    } else {
-        CostasConstellation::Psk8
-    }
 }
 
 // What a set-up leaves. It agrees if it is refused with the recorded number, or accepted where that
@@ -51,7 +40,7 @@ fn set_up(values: &[u64; 5], op: Operation, agrees: &mut bool) -> Slot
         return Slot::Empty;
     }
     let answer = carrier::set_up(
-        constellation(op.x),
+        constellation_of(op.x),
         replay::f64_of(values[0]),
         replay::f64_of(values[1]),
         replay::f64_of(values[2]),

@@ -9,12 +9,12 @@
 //
 // `values` has the three words of the next set-up, and how many f32 were put into the input and how
 // many of the output were compared.
-use patterns::f32_of;
 use crate::line::Operation;
 use crate::words::high;
 use crate::words::low;
 use crate::words::word;
 use crate::words::words_agree;
+use patterns::f32_of;
 ghost use mathlib.Core.Path.{_≡_};
 ghost use Prim.Native.Nat.{_<_};
 ghost use lib.ListN.{getD};
@@ -25,7 +25,7 @@ const INPUT: usize = 3;
 const OUTPUT: usize = 4;
 
 // The bits of the f32 that fills the output before a run: one that no ordinary signal makes.
-const FILLING: u32 = 0xdeadbeef;
+pub const FILLING: u32 = 0xdeadbeef;
 
 fn put(input: &mut [f32; 192], k: usize, word: u64)
     requires { ⌜ k < 191 ⌝ }

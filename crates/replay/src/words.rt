@@ -1,9 +1,9 @@
 // The words of a line: what stands in them, and comparing them with what was computed. A float agrees
 // bit for bit; a NaN is recorded as 7fc00000.
+use crate::line::Operation;
 use patterns::f32_bits;
 use patterns::f32_of;
 use patterns::f64_bits;
-use crate::line::Operation;
 ghost use mathlib.Core.Path.{_≡_};
 ghost use Prim.Native.Nat.{_+_, _*_, _^_, _/_, _%_};
 ghost use lib.Ieee.{binary32, binary64, ofBits, toBits};

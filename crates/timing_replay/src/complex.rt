@@ -1,43 +1,11 @@
 // Playing a line on a state of complex samples.
-use crate::fields::clock_agrees;
-use crate::fields::params_agree;
-use crate::fields::rest_agrees;
-use crate::real::progress_agrees;
 use replay::Operation;
-use replay::word;
-use replay::words_agree;
+use replay_states::answer_agrees;
+use replay_states::complex_agrees;
 use symbol_sync::complex;
 use symbol_sync::complex::SymbolSyncState;
-use values::Answer;
-use values::C32;
 ghost use Rattle.timing.specs.Run.{Given};
 ghost use Rattle.symbol_sync.specs.Complex.{sync};
-
-fn samples_agree(a: C32, b: C32, c: C32, op: Operation) -> bool {
-    words_agree(word(a.re, a.im), word(b.re, b.im), word(c.re, c.im), op)
-}
-
-// Whether the fields that the letter names agree.
-fn fields_agree(s: SymbolSyncState, op: Operation) -> bool {
-    let h = s.hist;
-    let t = s.track;
-    let letter = op.letter;
-    match letter {
-        b's' => clock_agrees(t.clock, op),
-        b'h' => samples_agree(h.a, h.b, h.c, op),
-        b'y' => samples_agree(t.y_prev, t.d_prev, t.mid, op),
-        b'f' => rest_agrees(t.clock, t.mid_ready, t.started, op),
-        _ => params_agree(s.params, op),
-    }
-}
-
-// Whether a run answers what the line says.
-fn answer_agrees(answer: Answer, op: Operation) -> bool {
-    match answer {
-        Answer::Done(p) => progress_agrees(p, op),
-        Answer::Refused(r) => words_agree(op.x, 0, r.number() as u64, op),
-    }
-}
 
 // Runs on as much of the buffers as the line says, and not at all if they have less.
 fn run(
@@ -82,6 +50,6 @@ pub(crate) fn play(
     if letter == b'r' {
         return run(s, op, input, output, agrees);
     }
-    *agrees = *agrees || fields_agree(s, op);
+    *agrees = *agrees || complex_agrees(s, op);
     s
 }

@@ -22,7 +22,6 @@
 //   f  integrator, middle held + 2 started, next strobe
 mod complex;
 mod counts;
-mod fields;
 mod play;
 mod real;
 mod slot;

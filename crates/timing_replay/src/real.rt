@@ -1,13 +1,13 @@
 // Playing a line on a state of real samples.
-use crate::fields::clock_agrees;
-use crate::fields::params_agree;
-use crate::fields::rest_agrees;
 use replay::Operation;
 use replay::word;
 use replay::words_agree;
+use replay_states::clock_agrees;
+use replay_states::params_agree;
+use replay_states::progress_agrees;
+use replay_states::rest_agrees;
 use symbol_sync::real;
 use symbol_sync::real::SymbolSyncState;
-use values::Progress;
 ghost use Rattle.timing.specs.Run.{Given};
 ghost use Rattle.symbol_sync.specs.Real.{sync};
 
@@ -27,13 +27,6 @@ fn fields_agree(s: SymbolSyncState, op: Operation) -> bool {
         b'f' => rest_agrees(t.clock, t.mid_ready, t.started, op),
         _ => params_agree(s.params, op),
     }
-}
-
-// Whether a run answers what the line says.
-pub(crate) fn progress_agrees(p: Progress, op: Operation) -> bool {
-    p.consumed as u64 == op.y % 4294967296
-        && p.produced as u64 == op.y / 4294967296
-        && op.answer == 0
 }
 
 // Runs on as much of the buffers as the line says, and not at all if they have less.

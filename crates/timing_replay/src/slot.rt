@@ -2,6 +2,7 @@
 use crate::complex as complex_line;
 use crate::real as real_line;
 use replay::Operation;
+use replay_states::detector_of;
 use symbol_sync::complex;
 use symbol_sync::real;
 use timing::Ted;
@@ -27,19 +28,11 @@ struct SixValues {
     ted_gain: f64,
 }
 
-fn detector(code: u64) -> Ted {
-    if code == 0 {
-        Ted::Gardner
-    } else {
-        Ted::MuellerMuller
-    }
-}
-
 // What the `v` line before and this one ask for.
 fn asked(values: &[u64; 5], op: Operation) -> SixValues {
     SixValues {
         sps: replay::f64_of(values[0]),
-        ted: detector(op.answer % 16 / 2),
+        ted: detector_of(op.answer % 16 / 2),
         loop_bw: replay::f64_of(values[1]),
         damping: replay::f64_of(values[2]),
         max_deviation: replay::f64_of(op.x),

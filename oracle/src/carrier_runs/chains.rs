@@ -16,11 +16,11 @@ const CALLS: usize = 8;
 /// Block lengths.
 const LENGTHS: [usize; 12] = [0, 1, 1, 2, 3, 4, 5, 7, 12, 17, 31, LONGEST];
 /// Loop bandwidths.
-const BANDWIDTHS: [f64; 3] = [0.0001, 0.02, 0.2];
+pub const BANDWIDTHS: [f64; 3] = [0.0001, 0.02, 0.2];
 /// Dampings.
-const DAMPINGS: [f64; 3] = [0.1, FRAC_1_SQRT_2, 4.0];
+pub const DAMPINGS: [f64; 3] = [0.1, FRAC_1_SQRT_2, 4.0];
 /// Maximum offsets. The third is flushed.
-const OFFSETS: [f64; 5] = [0.0, -0.0, 1e-35, 0.05, 0.25];
+pub const OFFSETS: [f64; 5] = [0.0, -0.0, 1e-35, 0.05, 0.25];
 
 /// A chain with every block length, then random ones.
 pub fn record<K: Costas>(

@@ -55,29 +55,48 @@ fn until<K: Costas>(
     }
 }
 
+/// Samples, and the level and the lock that they end with.
+pub struct Edge {
+    pub samples: Vec<C32>,
+    pub level: f32,
+    pub locked: bool,
+}
+
 /// BPSK samples on the axes, which have no error, so that phase and frequency stay; then one that
-/// brings the level to the edge exactly, or to the number on either side of it. And an 8-PSK sample
-/// whose squares vanish: it sets lock by itself.
-pub fn cases<K: Costas>(recorder: &mut Recorder<K>) {
+/// brings the level to the edge exactly, or to the number on either side of it.
+pub fn edges() -> Vec<Edge> {
     let one = C32::new(1.0, 0.0);
     let rise = vec![one; 68];
     let fall = [vec![one; 70], vec![C32::new(0.0, 1.0); 14]].concat();
     let below = |x: f32| x.next_down();
     let above = |x: f32| x.next_up();
-    for (before, im, level, locked) in [
+    [
         (&rise, 0x3db9_9b86, below(0.5), false),
         (&rise, 0x3db9_94c9, 0.5, false),
         (&rise, 0x3db9_8c20, above(0.5), true),
         (&fall, 0x3fd0_8664, above(0.3), true),
         (&fall, 0x3fd0_8696, 0.3, true),
         (&fall, 0x3fd0_86c9, below(0.3), false),
-    ] {
+    ]
+    .map(|(before, im, level, locked)| Edge {
+        samples: [&before[..], &[C32::new(1.0, f32::from_bits(im))]].concat(),
+        level,
+        locked,
+    })
+    .into()
+}
+
+/// The edges, block by block and the last sample by itself. And an 8-PSK sample whose squares vanish:
+/// it sets lock by itself.
+pub fn cases<K: Costas>(recorder: &mut Recorder<K>) {
+    for edge in edges() {
         let mut state = recorder.opened(on_the_axes(CostasConstellation::Bpsk));
+        let (last, before) = edge.samples.split_last().expect("there are samples");
         for block in before.chunks(BLOCK) {
             recorder.even_run(&mut state, block);
         }
-        recorder.even_run(&mut state, &[C32::new(1.0, f32::from_bits(im))]);
-        assert_eq!((state.level, state.locked), (level, locked));
+        recorder.even_run(&mut state, &[*last]);
+        assert_eq!((state.level, state.locked), (edge.level, edge.locked));
     }
     let tiny = [0x1a5c_f657, 0x19fd_6d54].map(f32::from_bits);
     let mut state = recorder.opened(on_the_axes(CostasConstellation::Psk8));
@@ -85,7 +104,8 @@ pub fn cases<K: Costas>(recorder: &mut Recorder<K>) {
     assert!(state.locked && state.level > 5.0);
 }
 
-fn on_the_axes(points: CostasConstellation) -> Values {
+/// Values with which the edges are met.
+pub fn on_the_axes(points: CostasConstellation) -> Values {
     Values {
         points,
         bandwidth: 0.01,

@@ -8,7 +8,7 @@ use crate::types::C32;
 /// Zeros and ones of both signs, so that there are points on each axis and each diagonal; numbers
 /// whose squares or fourth powers vanish or overflow, the largest with a vanishing square and the
 /// least with an overflowing one among them; infinities and NaN.
-const PARTS: [f32; 15] = [
+pub const PARTS: [f32; 15] = [
     0.0,
     -0.0,
     1.0,

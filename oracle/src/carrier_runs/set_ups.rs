@@ -38,25 +38,39 @@ fn with(mut values: Values, place: usize, x: f64) -> Values {
 }
 
 pub fn record<K: Costas>(recorder: &mut Recorder<K>, points: CostasConstellation) {
-    let plain = Values {
+    for values in listed(points) {
+        recorder.set_up(values);
+    }
+}
+
+/// Values inside their ranges.
+pub fn ordinary(points: CostasConstellation) -> Values {
+    Values {
         points,
         bandwidth: 0.02,
         damping: 0.7,
         offset: 0.05,
-    };
+    }
+}
+
+/// All set-ups with a constellation, in order.
+pub fn listed(points: CostasConstellation) -> Vec<Values> {
+    let plain = ordinary(points);
+    let mut list = Vec::new();
     for (place, ends) in ENDS.into_iter().enumerate() {
-        for x in ends.into_iter().flat_map(near).chain(special()) {
-            recorder.set_up(with(plain, place, x));
-        }
+        let all = ends.into_iter().flat_map(near).chain(special());
+        list.extend(all.map(|x| with(plain, place, x)));
     }
     for [bandwidth, damping, offset] in WRONG {
         let wide = with(plain, 0, bandwidth);
         let stiff = with(plain, 1, damping);
-        recorder.set_up(with(wide, 1, damping));
-        recorder.set_up(with(wide, 2, offset));
-        recorder.set_up(with(stiff, 2, offset));
-        recorder.set_up(with(with(wide, 1, damping), 2, offset));
+        let both = with(wide, 1, damping);
+        list.push(both);
+        list.push(with(wide, 2, offset));
+        list.push(with(stiff, 2, offset));
+        list.push(with(both, 2, offset));
     }
+    list
 }
 
 /// Gains: the middles, then random values, each range's ends among them.

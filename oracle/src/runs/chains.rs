@@ -9,9 +9,9 @@ use crate::signal::odd_value;
 use crate::types::C32;
 
 /// The longest block and the most places, in samples: two f32 a sample fit the replay's buffers.
-const LONGEST: usize = 60;
+pub const LONGEST: usize = 60;
 /// Samples for each symbol.
-const PACES: [f64; 10] = [
+pub const PACES: [f64; 10] = [
     2.0,
     2.0000000000000004,
     2.3,
@@ -24,13 +24,13 @@ const PACES: [f64; 10] = [
     1_000_000.0,
 ];
 /// Maximum deviations.
-const DEVIATIONS: [f64; 4] = [0.0, 0.05, 0.005, -0.0];
+pub const DEVIATIONS: [f64; 4] = [0.0, 0.05, 0.005, -0.0];
 /// Detector gains; the small ones drive the loop into its limits.
-const GAINS: [f64; 5] = [1.0, 0.01, 1e-12, 2.7, 1e300];
+pub const GAINS: [f64; 5] = [1.0, 0.01, 1e-12, 2.7, 1e300];
 /// Block lengths.
-const LENGTHS: [usize; 14] = [0, 1, 2, 3, 4, 5, 0, 1, 3, 7, 9, 17, 31, 60];
+pub const LENGTHS: [usize; 14] = [0, 1, 2, 3, 4, 5, 0, 1, 3, 7, 9, 17, 31, 60];
 /// Output places.
-const PLACES: [usize; 9] = [0, 1, 2, 3, 5, 8, 1, 2, 40];
+pub const PLACES: [usize; 9] = [0, 1, 2, 3, 5, 8, 1, 2, 40];
 
 fn values(sps: f64, detector: Ted, deviation: f64, gain: f64) -> Values {
     Values {

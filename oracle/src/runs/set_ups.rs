@@ -28,7 +28,8 @@ const ENDS: [[f64; 2]; 5] = [
 /// What is wrong with each value when two are.
 const WRONG: [f64; 5] = [1.5, 0.2, 5.0, 0.06, 0.0];
 
-fn ordinary(detector: Ted) -> Values {
+/// Values inside their ranges.
+pub fn ordinary(detector: Ted) -> Values {
     Values {
         sps: 4.1,
         detector,
@@ -58,27 +59,32 @@ fn around(end: f64) -> [f64; 3] {
 }
 
 pub fn record<T: Parts, K>(recorder: &mut Recorder<K>, detector: Ted) {
+    for values in listed(detector) {
+        recorder.set_up::<T>(values);
+    }
+}
+
+/// All set-ups with a detector, in order.
+pub fn listed(detector: Ted) -> Vec<Values> {
     let plain = ordinary(detector);
+    let mut list = Vec::new();
     for (place, ends) in ENDS.into_iter().enumerate() {
         let near = ends.into_iter().flat_map(around);
-        for x in near.chain(ODD) {
-            recorder.set_up::<T>(with(plain, place, x));
-        }
+        list.extend(near.chain(ODD).map(|x| with(plain, place, x)));
         let wrong = with(plain, place, WRONG[place]);
-        for (other, x) in WRONG.into_iter().enumerate().skip(place + 1) {
-            recorder.set_up::<T>(with(wrong, other, x));
-        }
+        let others = WRONG.into_iter().enumerate().skip(place + 1);
+        list.extend(others.map(|(other, x)| with(wrong, other, x)));
     }
-    gains::<T, K>(recorder, detector);
+    list.extend(gains(detector));
+    list
 }
 
 /// Gains that are about to overflow, in kp alone and in both.
-fn gains<T: Parts, K>(recorder: &mut Recorder<K>, detector: Ted) {
-    for exponent in 295..324 {
-        for sps in [2.0, 1_000_000.0] {
-            let gain = 10f64.powi(-exponent);
+fn gains(detector: Ted) -> impl Iterator<Item = Values> {
+    (295..324).flat_map(move |exponent| {
+        [2.0, 1_000_000.0].map(|sps| {
             let values = with(ordinary(detector), 0, sps);
-            recorder.set_up::<T>(with(values, 4, gain));
-        }
-    }
+            with(values, 4, 10f64.powi(-exponent))
+        })
+    })
 }

@@ -1,0 +1,4 @@
+pub mod Codes
+pub mod Answer
+pub mod Timing
+pub mod Carrier

@@ -1,0 +1,153 @@
+//! The receiver, which the original has not: document 01's text over the original's loops.
+
+use crate::bits::{Parts, fresh_output};
+use crate::error::Error;
+use crate::kernels::costas::{C8, CostasConstellation, CostasState, S8, octant_point};
+use crate::kernels::symbol_sync::SymbolSyncState;
+use crate::play::Kernel;
+use crate::script::flat;
+use crate::timing::Progress;
+use crate::types::C32;
+use crate::{carrier_runs, runs};
+
+/// The values of a set-up.
+#[derive(Clone, Copy, Debug)]
+pub struct Values {
+    pub timing: runs::Values,
+    pub carrier: carrier_runs::Values,
+    /// Whether the constellation is named. If it is not, it is the source's default.
+    pub named: bool,
+}
+
+impl Values {
+    /// A set-up that names its constellation.
+    pub fn named(timing: runs::Values, carrier: carrier_runs::Values) -> Self {
+        let named = true;
+        Self {
+            timing,
+            carrier,
+            named,
+        }
+    }
+
+    /// The same set-up without a constellation.
+    pub fn unnamed(mut self) -> Self {
+        self.carrier.points = CostasConstellation::default();
+        self.named = false;
+        self
+    }
+}
+
+/// The record: both loops and the symbol count.
+#[derive(Clone, Copy, Debug)]
+pub struct Receiver {
+    pub timing: SymbolSyncState<C32>,
+    pub carrier: CostasState,
+    pub count: u32,
+}
+
+/// What a sample call answers. The number is 0 if it is not refused.
+#[derive(Clone, Copy, Debug, PartialEq)]
+pub struct Answer {
+    pub number: u64,
+    pub consumed: usize,
+    pub produced: usize,
+}
+
+impl Receiver {
+    /// "Timing is set up first, all its checks before any of the carrier's."
+    pub fn new(values: Values) -> Result<Self, Error> {
+        let timing = values.timing.set_up()?;
+        let carrier = values.carrier.set_up()?;
+        let count = 0;
+        Ok(Self {
+            timing,
+            carrier,
+            count,
+        })
+    }
+
+    /// "A reset resets both loops and clears the count."
+    pub fn reset(&mut self) {
+        self.timing.reset();
+        self.carrier.reset();
+        self.count = 0;
+    }
+
+    /// "Timing into a strobe buffer, then the carrier over the strobes produced, into the output." In a
+    /// run number 8 comes before 7; a refused one changes nothing.
+    pub fn run<K: Kernel>(
+        &mut self,
+        kernel: &K,
+        input: &[f32],
+        strobes: &mut [f32],
+        output: &mut [f32],
+    ) -> Answer {
+        let lengths = [input.len(), strobes.len(), output.len()];
+        if lengths.iter().any(|length| length % 2 == 1) {
+            return refused(8);
+        }
+        if strobes.len() != output.len() {
+            return refused(7);
+        }
+        let mut found: Vec<C32> = samples(strobes);
+        let Progress { consumed, produced } = kernel
+            .symbol_sync(&mut self.timing, &samples(input), &mut found)
+            .expect("no complex run is refused");
+        strobes.copy_from_slice(&flat(&found));
+        let mut carried: Vec<C32> = fresh_output(produced);
+        kernel
+            .costas(&mut self.carrier, &found[..produced], &mut carried)
+            .expect("the counts are equal");
+        output[..2 * produced].copy_from_slice(&flat(&carried));
+        let symbols = u32::try_from(produced).expect("a buffer's count");
+        self.count = self.count.saturating_add(symbols);
+        Answer {
+            number: 0,
+            consumed,
+            produced,
+        }
+    }
+}
+
+fn refused(number: u64) -> Answer {
+    Answer {
+        number,
+        consumed: 0,
+        produced: 0,
+    }
+}
+
+/// The samples of a buffer of parts.
+pub fn samples(floats: &[f32]) -> Vec<C32> {
+    let pairs = floats.chunks_exact(C32::COUNT);
+    pairs.map(|two| C32::new(two[0], two[1])).collect()
+}
+
+/// The eight points in the order of their octants.
+const POINTS: [(f32, f32); 8] = [
+    (C8, S8),
+    (S8, C8),
+    (-S8, C8),
+    (-C8, S8),
+    (-C8, -S8),
+    (-S8, -C8),
+    (S8, -C8),
+    (C8, -S8),
+];
+
+/// The octant, by the point that the original gives for it. (The original's function that gives the
+/// octant itself is kept to its file.)
+pub fn octant(y: C32) -> u64 {
+    let place = POINTS.iter().position(|point| *point == octant_point(y));
+    place.expect("one of the eight points") as u64
+}
+
+/// "Symbol numbers".
+pub fn symbol_number(points: CostasConstellation, y: C32) -> u64 {
+    match points {
+        CostasConstellation::Bpsk => u64::from(y.re < 0.0 || (y.re == 0.0 && y.im < 0.0)),
+        CostasConstellation::Qpsk => octant(y) / 2,
+        _ => octant(y),
+    }
+}

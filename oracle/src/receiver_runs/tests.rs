@@ -1,0 +1,227 @@
+//! The recorded runs are in the form that README.md describes, and reach what they should. That both
+//! implementations give them, and that the turned lists are as document 01 claims, is asked wherever they
+//! are made.
+
+use std::collections::HashSet;
+use std::f64::consts::TAU;
+
+use super::receiver::{Receiver, Values, octant};
+use super::{CONSTELLATIONS, Turns, recorded};
+use crate::bits::SENTINEL;
+use crate::kernels::costas::CostasConstellation;
+use crate::kernels::symbol_sync::Ted;
+use crate::lines::{check_width, fields};
+use crate::script::{number, pair};
+use crate::types::C32;
+use crate::{carrier_runs, runs};
+
+type Line = (char, u64, u64, u64);
+
+/// The letters of a record, in order.
+const RECORD: &str = "abkshyfdgwlqe";
+
+fn lines() -> Vec<Line> {
+    recorded().lines().map(fields).collect()
+}
+
+/// The lines of these letters.
+fn lines_of(letters: &str) -> Vec<Line> {
+    let all = lines().into_iter();
+    all.filter(|line| letters.contains(line.0)).collect()
+}
+
+/// Each call, as the lines from its letter up to the next call's input or letter.
+fn calls(lines: &[Line]) -> Vec<&[Line]> {
+    let starts: Vec<usize> = (0..lines.len())
+        .filter(|&at| "nuzpjr".contains(lines[at].0))
+        .collect();
+    let ends = starts.iter().skip(1).copied().chain([lines.len()]);
+    let both = starts.iter().zip(ends);
+    both.map(|(&start, end)| &lines[start..end]).collect()
+}
+
+/// The lines of a call that have these letters.
+fn among(call: &[Line], letters: &str) -> Vec<Line> {
+    let some = call.iter().filter(|line| letters.contains(line.0));
+    some.copied().collect()
+}
+
+/// The number of a set-up's line.
+fn number_of(line: &Line) -> u64 {
+    line.3 / 16 % 16
+}
+
+/// The f32 of input, strobe buffer and output of a run's line.
+fn lengths(line: &Line) -> [u64; 3] {
+    [line.1 % (1 << 16), line.1 >> 16 & 0xffff, line.1 >> 32]
+}
+
+#[test]
+fn the_lines_have_53_bytes_and_are_the_same_every_time() {
+    let text = check_width(recorded);
+    assert!(text.len() < 6_000_000);
+}
+
+#[test]
+fn every_number_of_a_set_up_is_met_with_and_without_a_name() {
+    for letter in ["n", "u"] {
+        let met: HashSet<u64> = lines_of(letter).iter().map(number_of).collect();
+        assert_eq!(met, (0..7).collect());
+    }
+    assert!(lines_of("u").iter().all(|line| line.3 / 2 % 8 == 0));
+}
+
+#[test]
+fn timings_number_wins() {
+    for timing in runs::listed(Ted::Gardner) {
+        for carrier in carrier_runs::listed(CostasConstellation::Psk8) {
+            let first = number(&timing.set_up::<C32>());
+            let second = number(&carrier.set_up());
+            let both = number(&Receiver::new(Values::named(timing, carrier)));
+            assert_eq!(both, if first > 0 { first } else { second });
+        }
+    }
+}
+
+#[test]
+fn minus_zero_is_accepted_as_deviation_and_as_offset() {
+    let all = lines();
+    let minus = (-0f64).to_bits();
+    let accepted = |place: usize| all[place].0 == 'a';
+    let deviations = (0..all.len()).filter(|&at| "nu".contains(all[at].0) && all[at].1 == minus);
+    let offsets = (0..all.len()).filter(|&at| all[at].0 == 'c' && all[at].3 == minus);
+    assert!(deviations.filter(|at| accepted(at + 1)).count() > 0);
+    assert!(offsets.filter(|at| accepted(at + 2)).count() > 0);
+}
+
+#[test]
+fn every_call_is_followed_by_the_whole_record() {
+    for call in calls(&lines()) {
+        let refused = "nu".contains(call[0].0) && number_of(&call[0]) > 0;
+        let letters: String = among(call, RECORD).iter().map(|line| line.0).collect();
+        assert_eq!(letters, if refused { "" } else { RECORD });
+    }
+}
+
+#[test]
+fn runs_fit_the_buffers_and_are_refused_as_the_lengths_say() {
+    let runs = lines_of("r");
+    assert!(runs.len() > 3000);
+    for run in &runs {
+        let [input, strobes, output] = lengths(run);
+        assert!([input, strobes, output].iter().all(|length| *length <= 180));
+        let odd = [input, strobes, output].iter().any(|n| n % 2 == 1);
+        assert_eq!(
+            run.3,
+            match (odd, strobes != output) {
+                (true, _) => 8,
+                (false, true) => 7,
+                (false, false) => 0,
+            }
+        );
+    }
+    let odd: HashSet<[u64; 3]> = runs.iter().map(|l| lengths(l).map(|n| n % 2)).collect();
+    // Each buffer is odd and even, in every way.
+    assert_eq!(odd.len(), 8);
+    let both = |line: &&Line| line.3 == 8 && lengths(line)[1] != lengths(line)[2];
+    assert!(runs.iter().filter(both).count() > 40);
+    for number in [7, 8] {
+        assert!(runs.iter().filter(|l| l.3 == number).count() > 100);
+    }
+}
+
+#[test]
+fn a_refused_run_leaves_everything_as_it_was() {
+    let all = lines();
+    let fill = pair(SENTINEL, SENTINEL);
+    for two in calls(&all).windows(2) {
+        let (before, call) = (two[0], two[1]);
+        if call[0].0 == 'r' && call[0].3 > 0 {
+            assert_eq!(among(before, RECORD), among(call, RECORD));
+            let lent = among(call, "to");
+            assert!(lent.iter().all(|l| [l.1, l.2, l.3] == [fill; 3]));
+            assert_eq!(call[0].2, 0);
+        }
+    }
+}
+
+#[test]
+fn the_count_is_the_sum_of_the_symbols_up_to_the_top() {
+    let mut count = 0;
+    let mut tops = 0;
+    for call in calls(&lines()) {
+        let Some(record) = among(call, "q").first().copied() else {
+            continue;
+        };
+        count = match call[0].0 {
+            'r' => u64::from(u32::MAX).min(count + (call[0].2 >> 32)),
+            'p' => count,
+            'j' => call[0].1,
+            _ => 0,
+        };
+        assert_eq!(record.1, count);
+        tops += u64::from(count == u64::from(u32::MAX));
+    }
+    assert!(tops >= 10);
+}
+
+#[test]
+fn every_pace_runs_under_every_constellation_with_both_detectors() {
+    let mut met = HashSet::new();
+    for call in calls(&lines()) {
+        if call[0].0 == 'r' && call[0].3 == 0 {
+            let [a, b, l] = ["a", "b", "l"].map(|letter| among(call, letter)[0]);
+            met.insert((a.1, b.3, l.3));
+        }
+    }
+    for sps in runs::PACES.map(f64::to_bits) {
+        for detector in 0..2 {
+            for points in 0..3 {
+                assert!(met.contains(&(sps, detector, points)));
+            }
+        }
+    }
+}
+
+#[test]
+fn lock_is_set_and_cleared_under_every_constellation() {
+    for points in 0..CONSTELLATIONS.len() as u64 {
+        let locks = lines_of("l").into_iter().filter(|l| l.3 == points);
+        let locks: Vec<u64> = locks.map(|l| l.2).collect();
+        let changes = |from: u64, to: u64| locks.windows(2).filter(|l| **l == [from, to]).count();
+        assert!(changes(0, 1) >= 2 && changes(1, 0) >= 2);
+        assert!(locks.iter().filter(|locked| **locked == 1).count() >= 10);
+    }
+}
+
+#[test]
+fn every_turn_is_met_under_every_constellation() {
+    for points in CONSTELLATIONS {
+        let code = u64::from(crate::fields::constellation_code(points));
+        let of = |line: &Line| line.3 / 2 % 8 == code && number_of(line) == 0;
+        let lines = lines_of("nu");
+        let met: HashSet<u64> = lines.iter().filter(|l| of(l)).map(|l| l.3 >> 8).collect();
+        let all = Turns::allowed(points);
+        let all = all.iter().map(|t| u64::from(t.samples + 4 * t.phase));
+        assert_eq!(met, all.collect());
+    }
+}
+
+#[test]
+fn the_octant_is_that_of_the_angle() {
+    for degrees in (0u32..360).filter(|degrees| degrees % 45 != 0) {
+        let (sine, cosine) = (TAU * f64::from(degrees) / 360.0).sin_cos();
+        let y = C32::new(cosine as f32, sine as f32);
+        assert_eq!(octant(y), u64::from(degrees / 45));
+    }
+}
+
+#[test]
+fn every_symbol_number_is_met() {
+    let met: HashSet<(u64, u64)> = lines_of("m").iter().map(|l| (l.2, l.3)).collect();
+    let all = [(0, 2), (1, 4), (2, 8)];
+    let all = all
+        .iter()
+        .flat_map(|&(points, top)| (0..top).map(move |n| (points, n)));
+    assert_eq!(met, all.collect());
+}
