@@ -1,0 +1,90 @@
+// Replays recorded answers of the receiver, which stand on standard input: set-ups, resets, phases that
+// are set and runs, each field of the record after them, and symbol numbers. Says how many lines were
+// played of each kind, and how many differ from what the crate `receiver` computes.
+//
+// Beside the receiver of the lines a second one is played: it is set up, reset and run likewise, but each
+// of its samples is turned k quarter turns, and its phase is m quarter turns on. After each run the two
+// must be as document 01 says of turned recordings; that is one answer more.
+//
+// A line has 53 bytes: a letter, then three words of 16 hexadecimal digits, each after a space, and
+// a line end. Two f32 of a sample stand in one word, the first in its high half; any other f32 stands in
+// the low half of its word, after zeros. A word that is not named is zero.
+//
+//   v  sps, loop bandwidth, damping              of the next set-up's timing
+//   c  loop bandwidth, damping, maximum offset   of its carrier
+//   n  maximum deviation, detector gain, detector + 2 constellation + 16 number + 256 k + 1024 m: sets
+//      up; detector 1 is Mueller-Müller, constellation 0 BPSK, 1 QPSK and 2 8-PSK, the number the one it
+//      is refused with, or 0
+//   u  the same without naming the constellation, whose place is 0
+//   z  resets
+//   p  phase: sets it
+//   j  count: the record with this symbol count
+//   i  three samples, which go behind the input so far
+//   r  f32 of input + 2^16 f32 of strobe buffer + 2^32 f32 of output, consumed + 2^32 produced, number:
+//      runs
+//   t  the next six f32 of the strobe buffer, with the filling behind what was lent
+//   o  the next six f32 of the output, likewise
+//   m  sample, constellation, symbol number
+//   a, b, k, s, h, y, f   the timing state, as `replay_states` has them
+//   d  loop bandwidth, damping, maximum offset   of the carrier state
+//   g  kp, ki, the limit
+//   w  phase, frequency as the f32 that it is, the reading of it
+//   l  lock level, locked, constellation
+//   q  symbol count, instant, pace: the receiver's readings
+//   e  frequency, lock level, phase + 2^32 locked + 2^33 constellation: its other readings
+mod counts;
+mod fields;
+mod lent;
+mod pair;
+mod play;
+mod record;
+mod slot;
+mod symbols;
+mod tests;
+mod turned;
+
+use libc::STDIN_FILENO;
+use pair::no_receivers;
+use play::play_line;
+use replay::tally;
+
+// A proved loop has to end, and nothing says that the input does. So many lines are read at most.
+const LINES: u64 = 67108864;
+
+fn main() {
+    let mut tally = [0; 14];
+    play_lines(&mut tally);
+    counts::show(&tally);
+}
+
+// Plays line after line, up to the end of the input. What is left there after the last whole line
+// counts as a line too.
+fn play_lines(tally: &mut [u64; 14]) {
+    let mut timing = [0u64; 5];
+    let mut carrier = [0u64; 5];
+    let mut input = [0.0f32; 192];
+    let mut strobes = [0.0f32; 192];
+    let mut output = [0.0f32; 192];
+    let mut pair = no_receivers();
+    let mut left = LINES;
+    while left > 0 {
+        let mut line = [0u8; 53];
+        let n = io::read_full(STDIN_FILENO, &mut line);
+        if n == 0 {
+            return;
+        }
+        let op = replay::read_operation(&line[..n]);
+        pair = play_line(
+            pair,
+            op,
+            &mut timing,
+            &mut carrier,
+            &mut input,
+            &mut strobes,
+            &mut output,
+        );
+        counts::count(tally, &line[..n], op.letter, pair.agrees, pair.turned);
+        left -= 1;
+    }
+    tally::too_long(tally);
+}

@@ -1,0 +1,23 @@
+// Symbol numbers.
+use replay::Operation;
+use replay::high;
+use replay::low;
+use replay::words_agree;
+use replay_states::constellation_of;
+use values::C32;
+
+// Whether a line with the number of a symbol is right. Of any other line it says what was known.
+pub(crate) fn symbol_agrees(op: Operation, known: bool) -> bool {
+    if op.letter != b'm' {
+        return known;
+    }
+    if op.y > 2 {
+        return false;
+    }
+    let y = C32 {
+        re: high(op.x),
+        im: low(op.x),
+    };
+    let number = receiver::symbol_number(constellation_of(op.y), y);
+    words_agree(op.x, op.y, number as u64, op)
+}
