@@ -23,7 +23,7 @@ ROOT = Path(__file__).resolve().parent.parent
 def read_edit(file):
     """The edited file's name, and the pairs of an old piece and a new one."""
     lines = file.read_text(encoding="utf-8").splitlines()
-    part = lambda word: [line[len(word):].strip() for line in lines if line.startswith(word)]
+    part = lambda word: [line[len(word):].removeprefix(" ") for line in lines if line.startswith(word)]
     return part("file:")[0], list(zip(part("old:"), part("new:")))
 
 

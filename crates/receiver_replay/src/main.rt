@@ -34,7 +34,6 @@
 //   e  frequency, lock level, phase + 2^32 locked + 2^33 constellation: its other readings
 mod counts;
 mod fields;
-mod lent;
 mod pair;
 mod play;
 mod record;
@@ -42,6 +41,7 @@ mod slot;
 mod symbols;
 mod tests;
 mod turned;
+mod workspace;
 
 use libc::STDIN_FILENO;
 use pair::no_receivers;

@@ -1,5 +1,4 @@
 // Playing one line on both receivers.
-use crate::lent;
 use crate::pair::Pair;
 use crate::pair::Turns;
 use crate::pair::next_turns;
@@ -9,6 +8,7 @@ use crate::symbols::symbol_agrees;
 use crate::tests::both;
 use crate::turned;
 use crate::turned::phase_on;
+use crate::workspace;
 use replay::Operation;
 use replay::buffers::FILLING;
 ghost use Rattle.receiver_replay.specs.Slot.{SlotGiven, PairGiven};
@@ -64,7 +64,10 @@ fn run_second(
     let mut own_output = [replay::f32_of(FILLING); 192];
     let after = slot::run(slot, op, input, &mut own_strobes, &mut own_output, agrees);
     let lent = turned::buffers_turned(op, strobes, output, &own_strobes, &own_output, turns);
-    *agrees = both(*agrees, both(lent, turned::slots_turned(first, after, turns)));
+    *agrees = both(
+        *agrees,
+        both(lent, turned::slots_turned(first, after, turns)),
+    );
     after
 }
 
@@ -101,10 +104,19 @@ pub fn play_line(
     requires { ⌜ PairGiven pair ⌝ }
     ensures { λ r. ⌜ PairGiven r ⌝ }
 {
-    let played = lent::play(op, timing, carrier, input, strobes, output);
+    let played = workspace::play(op, timing, carrier, input, strobes, output);
     let mut agrees = symbol_agrees(op, played);
     let slot = pair.first;
-    let first = slot::play(slot, op, timing, carrier, input, strobes, output, &mut agrees);
+    let first = slot::play(
+        slot,
+        op,
+        timing,
+        carrier,
+        input,
+        strobes,
+        output,
+        &mut agrees,
+    );
     let turns = next_turns(pair.turns, op);
     let slot = pair.second;
     let mut turned = false;
