@@ -1,5 +1,5 @@
 -- `replay_states::timing_fields::params_agree` meets its contract, letter by letter. Assumes nothing.
-use mathlib.Core.Path.{_≡_, sym, ap, _∙_}
+use mathlib.Core.Path.{sym, ap, _∙_}
 use Prim.Native.Nat.{ℕ}
 use mathlib.Core.Bool.{Bool, false, cond}
 use borrow.Author.Tests.{ne-eqb}
