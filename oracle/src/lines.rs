@@ -32,9 +32,30 @@ pub fn wide(x: f32) -> u64 {
 
 /// A line taken apart: letter, argument, second argument, result.
 #[cfg(test)]
-pub fn fields(line: &str) -> (char, u64, u64, u64) {
+pub type Line = (char, u64, u64, u64);
+
+#[cfg(test)]
+pub fn fields(line: &str) -> Line {
     let word = |start: usize| u64::from_str_radix(&line[start..start + 16], 16).unwrap();
     (line.chars().next().unwrap(), word(2), word(19), word(36))
+}
+
+/// Each call, as the lines from its letter, one of these, up to the next call's.
+#[cfg(test)]
+pub fn calls<'a>(lines: &'a [Line], letters: &str) -> Vec<&'a [Line]> {
+    let starts: Vec<usize> = (0..lines.len())
+        .filter(|&at| letters.contains(lines[at].0))
+        .collect();
+    let ends = starts.iter().skip(1).copied().chain([lines.len()]);
+    let both = starts.iter().zip(ends);
+    both.map(|(&start, end)| &lines[start..end]).collect()
+}
+
+/// The lines of a call that have these letters.
+#[cfg(test)]
+pub fn among(call: &[Line], letters: &str) -> Vec<Line> {
+    let some = call.iter().filter(|line| letters.contains(line.0));
+    some.copied().collect()
 }
 
 /// The f32 whose bits are a word.

@@ -7,10 +7,8 @@ use std::f64::consts::TAU;
 use super::set_ups::MIDDLES;
 use super::{CONSTELLATIONS, recorded};
 use crate::bits::SENTINEL;
-use crate::lines::{check_width, fields, single};
+use crate::lines::{Line, among, calls, check_width, fields, single};
 use crate::script::pair;
-
-type Line = (char, u64, u64, u64);
 
 fn lines() -> Vec<Line> {
     recorded().lines().map(fields).collect()
@@ -22,21 +20,8 @@ fn lines_of(letter: char) -> Vec<Line> {
     all.filter(|line| line.0 == letter).collect()
 }
 
-/// Each call, as the lines from its letter up to the next call's input or letter.
-fn calls(lines: &[Line]) -> Vec<&[Line]> {
-    let starts: Vec<usize> = (0..lines.len())
-        .filter(|&at| "nzpqr".contains(lines[at].0))
-        .collect();
-    let ends = starts.iter().skip(1).copied().chain([lines.len()]);
-    let both = starts.iter().zip(ends);
-    both.map(|(&start, end)| &lines[start..end]).collect()
-}
-
-/// The lines of a call that have these letters.
-fn among(call: &[Line], letters: &str) -> Vec<Line> {
-    let some = call.iter().filter(|line| letters.contains(line.0));
-    some.copied().collect()
-}
+/// The letters that begin a call.
+const CALLS: &str = "nzpqr";
 
 #[test]
 fn the_lines_have_53_bytes_and_are_the_same_every_time() {
@@ -53,7 +38,7 @@ fn every_number_of_a_set_up_is_met_under_every_constellation() {
 
 #[test]
 fn every_call_is_followed_by_the_whole_state() {
-    for call in calls(&lines()) {
+    for call in calls(&lines(), CALLS) {
         let refused = call[0].0 == 'n' && call[0].3 > 0;
         let letters: String = among(call, "aksl").iter().map(|line| line.0).collect();
         assert_eq!(letters, if refused { "" } else { "aksl" });
@@ -87,7 +72,7 @@ fn runs_fit_the_buffers_and_are_refused_with_both_numbers() {
 fn a_refused_run_leaves_everything_as_it_was() {
     let all = lines();
     let fill = pair(SENTINEL, SENTINEL);
-    for two in calls(&all).windows(2) {
+    for two in calls(&all, CALLS).windows(2) {
         let (before, call) = (two[0], two[1]);
         if call[0].0 == 'r' && call[0].3 > 0 {
             assert_eq!(among(before, "aksl"), among(call, "aksl"));
@@ -110,7 +95,10 @@ fn lock_is_set_and_cleared_under_every_constellation() {
 #[test]
 fn frequencies_lie_at_both_limits_and_inside() {
     let all = lines();
-    let states: Vec<Vec<Line>> = calls(&all).iter().map(|call| among(call, "ks")).collect();
+    let states: Vec<Vec<Line>> = calls(&all, CALLS)
+        .iter()
+        .map(|call| among(call, "ks"))
+        .collect();
     let set = states.iter().filter(|lines| lines.len() == 2);
     let pairs: Vec<[f32; 2]> = set.map(|l| [single(l[1].2), single(l[0].3)]).collect();
     assert!(pairs.iter().all(|[freq, max]| freq.abs() <= *max));

@@ -10,12 +10,10 @@ use super::{CONSTELLATIONS, Turns, recorded};
 use crate::bits::SENTINEL;
 use crate::kernels::costas::CostasConstellation;
 use crate::kernels::symbol_sync::Ted;
-use crate::lines::{check_width, fields};
+use crate::lines::{Line, among, calls, check_width, fields};
 use crate::script::{number, pair};
 use crate::types::C32;
 use crate::{carrier_runs, runs};
-
-type Line = (char, u64, u64, u64);
 
 /// The letters of a record, in order.
 const RECORD: &str = "abkshyfdgwlqe";
@@ -30,21 +28,8 @@ fn lines_of(letters: &str) -> Vec<Line> {
     all.filter(|line| letters.contains(line.0)).collect()
 }
 
-/// Each call, as the lines from its letter up to the next call's input or letter.
-fn calls(lines: &[Line]) -> Vec<&[Line]> {
-    let starts: Vec<usize> = (0..lines.len())
-        .filter(|&at| "nuzpjr".contains(lines[at].0))
-        .collect();
-    let ends = starts.iter().skip(1).copied().chain([lines.len()]);
-    let both = starts.iter().zip(ends);
-    both.map(|(&start, end)| &lines[start..end]).collect()
-}
-
-/// The lines of a call that have these letters.
-fn among(call: &[Line], letters: &str) -> Vec<Line> {
-    let some = call.iter().filter(|line| letters.contains(line.0));
-    some.copied().collect()
-}
+/// The letters that begin a call.
+const CALLS: &str = "nuzpjr";
 
 /// The number of a set-up's line.
 fn number_of(line: &Line) -> u64 {
@@ -96,7 +81,7 @@ fn minus_zero_is_accepted_as_deviation_and_as_offset() {
 
 #[test]
 fn every_call_is_followed_by_the_whole_record() {
-    for call in calls(&lines()) {
+    for call in calls(&lines(), CALLS) {
         let refused = "nu".contains(call[0].0) && number_of(&call[0]) > 0;
         let letters: String = among(call, RECORD).iter().map(|line| line.0).collect();
         assert_eq!(letters, if refused { "" } else { RECORD });
@@ -134,7 +119,7 @@ fn runs_fit_the_buffers_and_are_refused_as_the_lengths_say() {
 fn a_refused_run_leaves_everything_as_it_was() {
     let all = lines();
     let fill = pair(SENTINEL, SENTINEL);
-    for two in calls(&all).windows(2) {
+    for two in calls(&all, CALLS).windows(2) {
         let (before, call) = (two[0], two[1]);
         if call[0].0 == 'r' && call[0].3 > 0 {
             assert_eq!(among(before, RECORD), among(call, RECORD));
@@ -149,7 +134,7 @@ fn a_refused_run_leaves_everything_as_it_was() {
 fn the_count_is_the_sum_of_the_symbols_up_to_the_top() {
     let mut count = 0;
     let mut tops = 0;
-    for call in calls(&lines()) {
+    for call in calls(&lines(), CALLS) {
         let Some(record) = among(call, "q").first().copied() else {
             continue;
         };
@@ -168,7 +153,7 @@ fn the_count_is_the_sum_of_the_symbols_up_to_the_top() {
 #[test]
 fn every_pace_runs_under_every_constellation_with_both_detectors() {
     let mut met = HashSet::new();
-    for call in calls(&lines()) {
+    for call in calls(&lines(), CALLS) {
         if call[0].0 == 'r' && call[0].3 == 0 {
             let [a, b, l] = ["a", "b", "l"].map(|letter| among(call, letter)[0]);
             met.insert((a.1, b.3, l.3));
