@@ -9,6 +9,7 @@ ghost use Rattle.carrier.specs.Detector.{calmed};
 ghost use Rattle.carrier.specs.Filter.{advanced};
 
 // The oscillator.
+#[repr(C)]
 pub struct Nco {
     // Phase before the next symbol, in units of 2^-32 turn.
     pub phase: u32,

@@ -12,6 +12,7 @@ pub enum Metric {
 }
 
 // The lock detector.
+#[repr(C)]
 pub struct Lock {
     // Smoothed lock measure.
     pub level: f32,

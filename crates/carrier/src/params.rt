@@ -3,6 +3,7 @@ ghost use mathlib.Core.Path.{_≡_};
 ghost use Rattle.carrier.specs.Gains.{kpOf, kiOf};
 
 // The three values of a set-up, the gains and the limit.
+#[repr(C)]
 pub struct Params {
     // Loop bandwidth, normalized to the symbol rate.
     pub loop_bw: f64,

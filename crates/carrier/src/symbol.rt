@@ -8,6 +8,7 @@ ghost use mathlib.Core.Path.{_≡_};
 ghost use Rattle.carrier.specs.Step.{stepped};
 
 // What a run changes.
+#[repr(C)]
 pub struct Track {
     pub nco: Nco,
     pub lock: Lock,

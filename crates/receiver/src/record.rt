@@ -33,6 +33,7 @@ pub struct TimingValues {
 }
 
 // What the carrier loop is set up with, but for its constellation.
+#[repr(C)]
 pub struct CarrierValues {
     // Loop bandwidth, normalized to the symbol rate.
     pub loop_bw: f64,

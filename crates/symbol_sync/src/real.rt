@@ -23,6 +23,7 @@ ghost use Rattle.timing.specs.Run.{histAt, written, fresh, openedBy, OpeningGiv
 ghost use Rattle.symbol_sync.specs.Real.{track, hist, sync, line, opening, outcomeOf, answered};
 
 // The last three samples, oldest first; index 0 of the positions.
+#[repr(C)]
 pub struct Hist {
     pub a: f32,
     pub b: f32,
@@ -30,6 +31,7 @@ pub struct Hist {
 }
 
 // What a run changes while it loops.
+#[repr(C)]
 pub struct Track {
     pub clock: Clock,
     pub y_prev: f32,

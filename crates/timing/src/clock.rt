@@ -2,6 +2,7 @@
 ghost use mathlib.Core.Path.{_≡_};
 ghost use Rattle.timing.specs.Clock.{nextStrobe, settled};
 
+#[repr(C)]
 pub struct Clock {
     // Integer part of the next strobe's position in the history followed by the input.
     pub i: usize,

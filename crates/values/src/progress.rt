@@ -2,6 +2,7 @@
 use crate::error::Refusal;
 
 // Result of a rate-changing call.
+#[repr(C)]
 pub struct Progress {
     // Input samples consumed.
     pub consumed: usize,

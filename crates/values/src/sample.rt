@@ -3,6 +3,7 @@ ghost use mathlib.Core.Path.{_≡_};
 ghost use lib.ListN.{getD};
 ghost use Rattle.values.specs.Samples.{silence, samples, stored};
 
+#[repr(C)]
 pub struct C32 {
     pub re: f32,
     pub im: f32,

@@ -1,5 +1,0 @@
-// A whole recording in one call, for programs in other languages: what the speed is measured with.
-mod once;
-
-pub use once::recover_complex;
-pub use once::recover_real;

@@ -1,0 +1,32 @@
+-- `train_receiver::complex_timing::trr_complex_reset` meets its contract: the state goes in, is reset, and its record comes out. Assumes nothing.
+use mathlib.Core.Path.{ap, _∙_}
+use Rattle.values.specs.declared.sample.C32.{C32}
+use Rattle.timing.specs.declared.params.Params.{Params}
+use Rattle.timing.specs.Sample.{complex}
+use Rattle.timing.specs.Run.{Sync, fresh}
+use Rattle.train_receiver.specs.ComplexTiming.{recordOf}
+use Rattle.train_receiver.proofs.Laws.Recorded.{stays-given, came-given}
+use Rattle.train_receiver.proofs.Laws.Timing.{complex-faithful}
+use borrow.Author.Needs.{needs}
+use Rattle.train_receiver.proofs.complex_timing.trr_complex_reset.Statement.{statement}
+use Rattle.train_receiver.proofs.complex_timing.trr_complex_reset.Tie as tie
+
+state-of-requires : tie.Need-state-of-requires
+state-of-requires c κs = search needs
+
+reset-requires : tie.Need-reset-requires
+reset-requires c κs = came-given complex-faithful (c .state-of .ensures) (c .before .pre)
+
+record-of-requires : tie.Need-record-of-requires
+record-of-requires c κs = search needs
+
+returns : tie.Need-returns
+returns c =
+    let r = c .before .reset .ensures in (
+      c .record-of .ensures ∙ ap recordOf (r .0 ∙ ap (λ (s : Sync C32). fresh complex (s .params)) (c .before .before .state-of .ensures)),
+      stays-given complex-faithful (c .record-of .ensures) (r .1),
+    )
+
+pub trr-complex-reset-spec : {M : Type 1} → statement M
+trr-complex-reset-spec =
+    tie.close (tie.spec state-of-requires reset-requires record-of-requires returns)

@@ -1,0 +1,30 @@
+-- `train_receiver::whole::trr_receiver_reset` meets its contract: the receiver goes in, is reset, and its record comes out. Assumes nothing.
+use mathlib.Core.Path.{ap, _∙_}
+use Rattle.receiver.specs.declared.record.Receiver.{Receiver}
+use Rattle.receiver.specs.Record.{restarted}
+use Rattle.train_receiver.specs.Whole.{recordOf}
+use Rattle.train_receiver.proofs.Laws.Recorded.{stays-given, came-given}
+use Rattle.train_receiver.proofs.Laws.Whole.{receiver-faithful}
+use borrow.Author.Needs.{needs}
+use Rattle.train_receiver.proofs.whole.trr_receiver_reset.Statement.{statement}
+use Rattle.train_receiver.proofs.whole.trr_receiver_reset.Tie as tie
+
+receiver-of-requires : tie.Need-receiver-of-requires
+receiver-of-requires c κs = search needs
+
+reset-requires : tie.Need-reset-requires
+reset-requires c κs = came-given receiver-faithful (c .receiver-of .ensures) (c .before .pre)
+
+record-of-requires : tie.Need-record-of-requires
+record-of-requires c κs = search needs
+
+returns : tie.Need-returns
+returns c =
+    let z = c .before .reset .ensures in (
+      c .record-of .ensures ∙ ap recordOf (z .0 ∙ ap (λ (r : Receiver). restarted r) (c .before .before .receiver-of .ensures)),
+      stays-given receiver-faithful (c .record-of .ensures) (z .1),
+    )
+
+pub trr-receiver-reset-spec : {M : Type 1} → statement M
+trr-receiver-reset-spec =
+    tie.close (tie.spec receiver-of-requires reset-requires record-of-requires returns)

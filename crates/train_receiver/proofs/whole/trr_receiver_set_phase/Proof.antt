@@ -1,0 +1,30 @@
+-- `train_receiver::whole::trr_receiver_set_phase` meets its contract: the receiver goes in, takes the phase, and its record comes out. Assumes nothing.
+use mathlib.Core.Path.{ap, _∙_}
+use Rattle.receiver.specs.declared.record.Receiver.{Receiver}
+use Rattle.receiver.specs.Record.{phaseSet}
+use Rattle.train_receiver.specs.Whole.{recordOf}
+use Rattle.train_receiver.proofs.Laws.Recorded.{stays-given, came-given}
+use Rattle.train_receiver.proofs.Laws.Whole.{receiver-faithful}
+use borrow.Author.Needs.{needs}
+use Rattle.train_receiver.proofs.whole.trr_receiver_set_phase.Statement.{statement}
+use Rattle.train_receiver.proofs.whole.trr_receiver_set_phase.Tie as tie
+
+receiver-of-requires : tie.Need-receiver-of-requires
+receiver-of-requires c κs = search needs
+
+set-phase-requires : tie.Need-set-phase-requires
+set-phase-requires c κs = came-given receiver-faithful (c .receiver-of .ensures) (c .before .pre)
+
+record-of-requires : tie.Need-record-of-requires
+record-of-requires c κs = search needs
+
+returns : tie.Need-returns
+returns c =
+    let z = c .before .set-phase .ensures in (
+      c .record-of .ensures ∙ ap recordOf (z .0 ∙ ap (λ (r : Receiver). phaseSet r (c .before .before .before .args .phase)) (c .before .before .receiver-of .ensures)),
+      stays-given receiver-faithful (c .record-of .ensures) (z .1),
+    )
+
+pub trr-receiver-set-phase-spec : {M : Type 1} → statement M
+trr-receiver-set-phase-spec =
+    tie.close (tie.spec receiver-of-requires set-phase-requires record-of-requires returns)

@@ -1,0 +1,32 @@
+-- `train_receiver::whole::trr_receiver_set_up` meets its contract: the set-up's answer, with the code's constellation and the record's values. Assumes nothing.
+use mathlib.Core.Path.{_≡_, ap, _∙_}
+use Rattle.train_receiver.specs.Whole.{setUpOf}
+use Rattle.receiver.specs.Record.{opened}
+use borrow.Author.Needs.{needs}
+use Rattle.train_receiver.proofs.whole.trr_receiver_set_up.Statement.{statement}
+use Rattle.train_receiver.proofs.whole.trr_receiver_set_up.Tie as tie
+
+constellation-requires : tie.Need-constellation-requires
+constellation-requires c κs = search needs
+
+values-of-requires : tie.Need-values-of-requires
+values-of-requires c κs = search needs
+
+set-up-requires : tie.Need-set-up-requires
+set-up-requires c κs = search needs
+
+answer-of-requires : tie.Need-answer-of-requires
+answer-of-requires c κs = c .set-up .ensures .1
+
+returns : tie.Need-returns
+returns c =
+    let u = c .before in
+    let points = u .before .before .constellation .ensures in
+    let values = u .before .values-of .ensures in (
+      c .answer-of .ensures .0 ∙ ap setUpOf (u .set-up .ensures .0 ∙ λ j. opened (points j) (values j) (u .before .before .before .args .c)),
+      c .answer-of .ensures .1,
+    )
+
+pub trr-receiver-set-up-spec : {M : Type 1} → statement M
+trr-receiver-set-up-spec =
+    tie.close (tie.spec constellation-requires values-of-requires set-up-requires answer-of-requires returns)

@@ -1,0 +1,28 @@
+-- `train_receiver::whole::trr_receiver_set_up_unnamed` meets its contract: the set-up's answer, with the record's values. Assumes nothing.
+use mathlib.Core.Path.{_≡_, ap, _∙_}
+use Rattle.train_receiver.specs.Whole.{setUpOf}
+use Rattle.receiver.specs.Record.{opened, unnamed}
+use borrow.Author.Needs.{needs}
+use Rattle.train_receiver.proofs.whole.trr_receiver_set_up_unnamed.Statement.{statement}
+use Rattle.train_receiver.proofs.whole.trr_receiver_set_up_unnamed.Tie as tie
+
+values-of-requires : tie.Need-values-of-requires
+values-of-requires c κs = search needs
+
+set-up-unnamed-requires : tie.Need-set-up-unnamed-requires
+set-up-unnamed-requires c κs = search needs
+
+answer-of-requires : tie.Need-answer-of-requires
+answer-of-requires c κs = c .set-up-unnamed .ensures .1
+
+returns : tie.Need-returns
+returns c =
+    let u = c .before in
+    let values = u .before .values-of .ensures in (
+      c .answer-of .ensures .0 ∙ ap setUpOf (u .set-up-unnamed .ensures .0 ∙ λ j. opened unnamed (values j) (u .before .before .args .c)),
+      c .answer-of .ensures .1,
+    )
+
+pub trr-receiver-set-up-unnamed-spec : {M : Type 1} → statement M
+trr-receiver-set-up-unnamed-spec =
+    tie.close (tie.spec values-of-requires set-up-unnamed-requires answer-of-requires returns)

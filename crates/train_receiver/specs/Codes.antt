@@ -1,0 +1,23 @@
+-- The numbers that stand for the enums, in both directions. Definitions only.
+use Prim.Native.Nat.{ℕ}
+use mathlib.Core.Bool.{cond}
+use lib.Dec.{eqb}
+use Rattle.timing.specs.declared.params.Ted.{Ted}
+use Rattle.timing.specs.declared.params.Ted.the-variants.{Gardner, MuellerMuller}
+use Rattle.carrier.specs.declared.constellation.CostasConstellation.{CostasConstellation}
+use Rattle.carrier.specs.declared.constellation.CostasConstellation.the-variants.{Bpsk, Qpsk, Psk8}
+
+abbrev pub detectorOf : ℕ → Ted
+detectorOf code = cond (eqb code 0) Gardner MuellerMuller
+
+abbrev pub detectorCode : Ted → ℕ
+detectorCode Gardner = 0
+detectorCode MuellerMuller = 1
+
+abbrev pub constellationOf : ℕ → CostasConstellation
+constellationOf code = cond (eqb code 0) Bpsk (cond (eqb code 1) Qpsk Psk8)
+
+abbrev pub constellationCode : CostasConstellation → ℕ
+constellationCode Bpsk = 0
+constellationCode Qpsk = 1
+constellationCode Psk8 = 2

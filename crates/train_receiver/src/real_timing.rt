@@ -1,0 +1,173 @@
+// Symbol timing recovery of real samples.
+use crate::codes::detector;
+use crate::params::TimingParams;
+use crate::params::TimingReadings;
+use crate::params::TimingValues;
+use crate::params::params_of;
+use crate::params::params_record;
+use symbol_sync::real;
+use symbol_sync::real::Hist;
+use symbol_sync::real::SymbolSyncState;
+use symbol_sync::real::Track;
+use timing::Clock;
+use values::Progress;
+ghost use mathlib.Core.Path.{_≡_};
+ghost use Rattle.timing.specs.Sample.{real as realOps};
+ghost use Rattle.timing.specs.Setup.{tuned};
+ghost use Rattle.timing.specs.Run.{fresh, openedBy, calledReal};
+ghost use Rattle.symbol_sync.specs.Real.{sync, outcomeOf};
+ghost use Rattle.train_receiver.specs.Codes.{detectorOf};
+ghost use Rattle.train_receiver.specs.Timing.{paramsOf, readingsOf};
+ghost use Rattle.train_receiver.specs.RealTiming.{syncOf, recordOf, none, setUpOf, Given};
+
+// The state as a plain record.
+#[repr(C)]
+pub struct RealTiming {
+    pub params: TimingParams,
+    pub hist: Hist,
+    pub track: Track,
+}
+
+// The answer of a set-up: document 01's number, and the state where the number is 0. Where it is not,
+// there is no state: the record is all zeros, and no call may be given it.
+#[repr(C)]
+pub struct RealSetUp {
+    pub number: u32,
+    pub state: RealTiming,
+}
+
+// The state that a record stands for.
+fn state_of(x: RealTiming) -> SymbolSyncState
+    ensures { λ r. ⌜ sync r ≡ syncOf x ⌝ }
+{
+    let p = x.params;
+    let h = x.hist;
+    let t = x.track;
+    SymbolSyncState {
+        params: params_of(p),
+        hist: h,
+        track: t,
+    }
+}
+
+// The record of a state.
+fn record_of(s: SymbolSyncState) -> RealTiming
+    ensures { λ r. ⌜ r ≡ recordOf (sync s) ⌝ }
+{
+    let p = s.params;
+    let h = s.hist;
+    let t = s.track;
+    RealTiming {
+        params: params_record(p),
+        hist: h,
+        track: t,
+    }
+}
+
+// What a refused set-up has in the place of a state.
+fn no_state() -> RealTiming
+    ensures { λ r. ⌜ r ≡ none ⌝ }
+{
+    let h = Hist {
+        a: 0.0,
+        b: 0.0,
+        c: 0.0,
+    };
+    let clock = Clock {
+        i: 0,
+        mu: 0.0,
+        omega: 0.0,
+        integ: 0.0,
+    };
+    let t = Track {
+        clock: clock,
+        y_prev: 0.0,
+        d_prev: 0.0,
+        mid: 0.0,
+        mid_ready: false,
+        started: false,
+    };
+    RealTiming {
+        params: crate::params::no_params(),
+        hist: h,
+        track: t,
+    }
+}
+
+// A fresh state, or the lowest number of what is wrong with the values.
+#[no_mangle]
+pub extern "C" fn trr_real_set_up(v: TimingValues) -> RealSetUp
+    ensures outcome { λ r. ⌜ r ≡ setUpOf (openedBy realOps (tuned (v .sps) (detectorOf (v .ted)) (v .«loop_bw») (v .damping) (v .«max_deviation») (v .«ted_gain»))) ⌝ }
+    ensures given { λ r. ⌜ (r .number ≡ 0 → Given (r .state)) ⌝ }
+{
+    let answer = real::set_up(
+        v.sps,
+        detector(v.ted),
+        v.loop_bw,
+        v.damping,
+        v.max_deviation,
+        v.ted_gain,
+    );
+    match answer {
+        real::SetUp::Ready(s) => RealSetUp {
+            number: 0,
+            state: record_of(s),
+        },
+        real::SetUp::Refused(n) => RealSetUp {
+            number: n.number(),
+            state: no_state(),
+        },
+    }
+}
+
+// The fresh state of the same parameters.
+#[no_mangle]
+pub extern "C" fn trr_real_reset(x: RealTiming) -> RealTiming
+    requires { ⌜ Given x ⌝ }
+    ensures state { λ r. ⌜ r ≡ recordOf (fresh realOps (paramsOf (x .params))) ⌝ }
+    ensures given { λ r. ⌜ Given r ⌝ }
+{
+    record_of(real::reset(state_of(x)))
+}
+
+// What the state tells of itself.
+#[no_mangle]
+pub extern "C" fn trr_real_readings(x: RealTiming) -> TimingReadings
+    ensures { λ r. ⌜ r ≡ readingsOf (x .params) (x .track .clock) ⌝ }
+{
+    let p = x.params;
+    crate::params::readings(p, x.track.clock)
+}
+
+// The counts of a call, and the record after it.
+pub struct RealRan {
+    pub counts: Progress,
+    pub state: RealTiming,
+}
+
+// One call, the record by value.
+fn run(x: RealTiming, input: &[f32], output: &mut [f32]) -> RealRan
+    requires { ⌜ Given x ⌝ }
+    ensures outcome { λ r. ⌜ outcomeOf (r .counts) (syncOf (r .state)) (now (output .exit)) ≡ calledReal (syncOf x) (now (input .entry)) (now (output .entry)) ⌝ }
+    ensures given { λ r. ⌜ Given (r .state) ⌝ }
+{
+    let ran = real::run(state_of(x), input, output);
+    let counts = ran.progress;
+    let s = ran.state;
+    RealRan {
+        counts: counts,
+        state: record_of(s),
+    }
+}
+
+// One call over a record that the caller lends, which is brought up to date. It is never refused.
+#[no_mangle]
+pub extern "C" fn trr_real_run(x: &mut RealTiming, input: &[f32], output: &mut [f32]) -> Progress
+    requires { ⌜ Given (now x) ⌝ }
+    ensures outcome { λ r. ⌜ outcomeOf r (syncOf (now (x .exit))) (now (output .exit)) ≡ calledReal (syncOf (now (x .entry))) (now (input .entry)) (now (output .entry)) ⌝ }
+    ensures given { λ _. ⌜ Given (now (x .exit)) ⌝ }
+{
+    let ran = run(*x, input, output);
+    *x = ran.state;
+    ran.counts
+}
