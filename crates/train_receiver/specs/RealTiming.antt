@@ -1,10 +1,8 @@
 -- The real timing loop's state as a plain record. Definitions only.
-use Prim.Native.Nat.{ℕ}
 use mathlib.Core.Bool.{false}
 use lib.Ieee.{Float}
 use Rattle.ieee.specs.Constants.{zero₀}
 use Rattle.values.specs.Refusal.{numberOf}
-use Rattle.timing.specs.Loop.{Track}
 use Rattle.timing.specs.Run.{Sync, Opening, opened, refused}
 use Rattle.symbol_sync.specs.Real.{hist, track}
 use Rattle.train_receiver.specs.declared.real_timing.RealTiming.{RealTiming}

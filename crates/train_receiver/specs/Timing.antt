@@ -1,5 +1,5 @@
 -- The parameters of a timing state as a plain record, and an answer as its number and counts. Definitions only.
-use Prim.Native.Nat.{ℕ, _<_}
+use Prim.Native.Nat.{_<_}
 use Rattle.ieee.specs.Constants.{zero₀}
 use Rattle.values.specs.declared.progress.Answer.{Answer}
 use Rattle.values.specs.Answer.{number, consumed, produced}

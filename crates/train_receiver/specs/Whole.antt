@@ -1,6 +1,5 @@
 -- The receiver as a plain record. Definitions only.
-use mathlib.Core.Path.{_≡_}
-use Prim.Native.Nat.{ℕ, _<_}
+use Prim.Native.Nat.{_<_}
 use mathlib.Core.List.{List}
 use lib.Ieee.{Float}
 use Rattle.values.specs.Refusal.{numberOf}

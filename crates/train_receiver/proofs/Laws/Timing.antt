@@ -1,14 +1,10 @@
 -- The records of both timing loops stand for their states faithfully. Assumes nothing.
 use mathlib.Core.Path.{_≡_, ap, sym, subst}
-use lib.Ieee.{Float}
-use Rattle.values.specs.declared.sample.C32.{C32}
 use Rattle.timing.specs.declared.params.Ted.{Ted}
 use Rattle.timing.specs.declared.params.Params.{Params}
 use Rattle.timing.specs.Run.{Sync}
 use Rattle.timing.specs.Run as run
 use Rattle.train_receiver.specs.declared.params.TimingParams.{TimingParams}
-use Rattle.train_receiver.specs.declared.real_timing.RealTiming.{RealTiming}
-use Rattle.train_receiver.specs.declared.complex_timing.ComplexTiming.{ComplexTiming}
 use Rattle.train_receiver.specs.Faithful.{Faithful}
 use Rattle.train_receiver.specs.Timing.{paramsOf, paramsRecord}
 use Rattle.train_receiver.specs.RealTiming as real

@@ -1,14 +1,25 @@
--- The receiver's record stands for the receiver faithfully. Assumes nothing.
+-- The receiver's record stands for the receiver faithfully, and a refused call leaves the very same record. Assumes nothing.
 use mathlib.Core.Path.{_≡_, ap, sym, subst}
+use Prim.Native.Nat.{_<_}
+use native.Mathlib.Omega.{arith}
+use mathlib.Core.Bool.{Bool, true, false, cond}
+use mathlib.Core.List.{List}
+use lib.Dec.{eqb}
+use lib.ListN.{length}
+use lib.Ieee.{Float}
+use Rattle.values.specs.declared.error.Refusal.the-variants.{Uneven, Odd}
 use Rattle.timing.specs.Run as run
 use Rattle.symbol_sync.specs.Complex.{sync}
 use Rattle.symbol_sync.specs.Complex as complex
 use Rattle.receiver.specs.declared.record.Receiver as declaredReceiver
 use Rattle.receiver.specs.Record as receiver
+use Rattle.receiver.specs.Call.{Outcome, turnedAway, oddAny, done, called}
+use Rattle.train_receiver.specs.declared.params.Counts.{Counts}
 use Rattle.train_receiver.specs.declared.whole.Receiver.{Receiver}
 use Rattle.train_receiver.specs.Faithful.{Faithful}
-use Rattle.train_receiver.specs.Whole.{receiverOf, recordOf, Given}
+use Rattle.train_receiver.specs.Whole.{receiverOf, recordOf, outcomeOf, Given}
 use Rattle.train_receiver.proofs.Laws.Codes.{detector-below, constellation-below}
+use Rattle.train_receiver.proofs.Laws.Recorded.{same-record}
 use Rattle.train_receiver.proofs.Laws.Timing.{complex-faithful}
 use Rattle.train_receiver.proofs.Laws.Carrier.{carrier-faithful}
 
@@ -30,3 +41,26 @@ receiver-faithful = record {
   given-out = λ r g. record { receiver = subst receiver.Given (sym (state-back r)) g; detector = detector-below (r .timing .params .ted); constellation = constellation-below (r .carrier .constellation) };
   given-in = λ x g. g .receiver;
 }
+
+-- ---- a refused call
+-- an outcome with the receiver and the buffers that the call found
+record AsFound (r : declaredReceiver.Receiver) (zs ys : List Float) (o : Outcome) : Type 0 where
+  receiver : o .receiver ≡ r
+  strobes : o .strobes ≡ zs
+  output : o .output ≡ ys
+
+-- "A refused run yields … the same state, and every buffer unchanged."
+called-as-found : (r : declaredReceiver.Receiver) (xs zs ys : List Float) (o : Outcome) → o ≡ called r xs zs ys → 0 < o .number → AsFound r zs ys o
+unfolding called done
+called-as-found r xs zs ys o = by (oddAny xs zs ys) (eqb (length zs) (length ys))
+  where
+    by : (odd equal : Bool) → o ≡ cond odd (turnedAway Odd r zs ys) (cond equal (done r xs zs ys) (turnedAway Uneven r zs ys)) → 0 < o .number → AsFound r zs ys o
+    by true equal e h = record { receiver = ap (λ (q : Outcome). q .receiver) e; strobes = ap (λ (q : Outcome). q .strobes) e; output = ap (λ (q : Outcome). q .output) e }
+    by false true e h = absurd (omega (arith, ap (λ (q : Outcome). q .number) e))
+    by false false e h = record { receiver = ap (λ (q : Outcome). q .receiver) e; strobes = ap (λ (q : Outcome). q .strobes) e; output = ap (λ (q : Outcome). q .output) e }
+
+-- what `trr_receiver_receive` ensures says so of the record itself: a call that answers another number than 0 leaves the record x and both buffers as it found them
+pub refused-as-found : (x y : Receiver) (a : Counts) (xs zs ys zs₁ ys₁ : List Float) → Given x → Given y → outcomeOf a y zs₁ ys₁ ≡ called (receiverOf x) xs zs ys → 0 < a .number → (y ≡ x) × ((zs₁ ≡ zs) × (ys₁ ≡ ys))
+refused-as-found x y a xs zs ys zs₁ ys₁ g h e n =
+    let f = called-as-found (receiverOf x) xs zs ys (outcomeOf a y zs₁ ys₁) e n in
+    (same-record receiver-faithful h g (f .receiver), (f .strobes, f .output))

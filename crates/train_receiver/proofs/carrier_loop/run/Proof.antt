@@ -1,5 +1,5 @@
 -- `train_receiver::carrier_loop::run` meets its contract: the state goes in, runs, and its record comes out. Assumes nothing.
-use mathlib.Core.Path.{_≡_, ap, _∙_}
+use mathlib.Core.Path.{ap, _∙_}
 use Rattle.carrier.specs.declared.state.CostasState.{CostasState}
 use Rattle.carrier.specs.Run.{called}
 use Rattle.train_receiver.proofs.Laws.Recorded.{stands, stays-given, came-given}

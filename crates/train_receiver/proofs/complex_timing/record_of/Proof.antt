@@ -1,5 +1,4 @@
 -- `train_receiver::complex_timing::record_of` meets its contract: the parameters are the record of the state's, and the rest is as it is. Assumes nothing.
-use mathlib.Core.Path.{_≡_}
 use borrow.Author.Needs.{needs}
 use Rattle.train_receiver.proofs.complex_timing.record_of.Statement.{statement}
 use Rattle.train_receiver.proofs.complex_timing.record_of.Tie as tie

@@ -1,9 +1,7 @@
 -- `train_receiver::complex_timing::run` meets its contract: the state goes in, runs, and its record comes out. Assumes nothing.
-use mathlib.Core.Path.{_≡_, ap, _∙_}
+use mathlib.Core.Path.{ap, _∙_}
 use Rattle.values.specs.declared.sample.C32.{C32}
 use Rattle.timing.specs.Run.{Sync, calledComplex}
-use Rattle.train_receiver.specs.declared.params.Counts.{Counts}
-use Rattle.train_receiver.specs.ComplexTiming.{outcomeOf}
 use Rattle.train_receiver.proofs.Laws.Recorded.{stands, stays-given, came-given}
 use Rattle.train_receiver.proofs.Laws.Timing.{complex-faithful}
 use borrow.Author.Needs.{needs}

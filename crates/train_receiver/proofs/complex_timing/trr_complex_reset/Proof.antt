@@ -1,7 +1,6 @@
 -- `train_receiver::complex_timing::trr_complex_reset` meets its contract: the state goes in, is reset, and its record comes out. Assumes nothing.
 use mathlib.Core.Path.{ap, _∙_}
 use Rattle.values.specs.declared.sample.C32.{C32}
-use Rattle.timing.specs.declared.params.Params.{Params}
 use Rattle.timing.specs.Sample.{complex}
 use Rattle.timing.specs.Run.{Sync, fresh}
 use Rattle.train_receiver.specs.ComplexTiming.{recordOf}

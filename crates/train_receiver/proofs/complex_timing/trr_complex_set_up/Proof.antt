@@ -7,7 +7,6 @@ use Rattle.timing.specs.Setup.{tuned}
 use Rattle.timing.specs.Run.{Opening, OpeningGiven, openedBy}
 use Rattle.symbol_sync.specs.declared.complex.SetUp.{SetUp}
 use Rattle.symbol_sync.specs.Complex.{opening}
-use Rattle.train_receiver.specs.declared.complex_timing.ComplexSetUp.{ComplexSetUp}
 use Rattle.train_receiver.specs.Codes.{detectorOf}
 use Rattle.train_receiver.specs.ComplexTiming.{setUpOf}
 use Rattle.train_receiver.proofs.Laws.Codes.{refused-not-done}

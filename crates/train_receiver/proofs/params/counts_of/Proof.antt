@@ -1,6 +1,5 @@
 -- `train_receiver::params::counts_of` meets its contract: by what the answer is. Assumes nothing.
-use mathlib.Core.Path.{_≡_, sym, ap, _∙_}
-use Rattle.values.specs.declared.progress.Answer.{Answer}
+use mathlib.Core.Path.{sym, ap, _∙_}
 use Rattle.train_receiver.specs.Timing.{countsOf}
 use borrow.Author.Needs.{needs}
 use Rattle.train_receiver.proofs.params.counts_of.Statement.{statement}

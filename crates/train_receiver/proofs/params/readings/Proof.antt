@@ -1,8 +1,5 @@
 -- `train_receiver::params::readings` meets its contract: the two readings are the clock's own. Assumes nothing.
-use mathlib.Core.Path.{_≡_}
-use lib.Ieee.{Float}
 use Rattle.train_receiver.specs.Timing.{readingsOf}
-use Rattle.train_receiver.specs.declared.params.TimingReadings.{TimingReadings}
 use borrow.Author.Needs.{needs}
 use Rattle.train_receiver.proofs.params.readings.Statement.{statement}
 use Rattle.train_receiver.proofs.params.readings.Tie as tie

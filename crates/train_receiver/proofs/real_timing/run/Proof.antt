@@ -1,5 +1,5 @@
 -- `train_receiver::real_timing::run` meets its contract: the state goes in, runs, and its record comes out. Assumes nothing.
-use mathlib.Core.Path.{sym, ap, _∙_}
+use mathlib.Core.Path.{ap, _∙_}
 use lib.Ieee.{Float}
 use Rattle.timing.specs.Run.{Sync, calledReal}
 use Rattle.symbol_sync.specs.Real.{outcomeOf}

@@ -1,7 +1,6 @@
 -- `train_receiver::real_timing::trr_real_reset` meets its contract: the state goes in, is reset, and its record comes out. Assumes nothing.
 use mathlib.Core.Path.{ap, _∙_}
 use lib.Ieee.{Float}
-use Rattle.timing.specs.declared.params.Params.{Params}
 use Rattle.timing.specs.Sample.{real}
 use Rattle.timing.specs.Run.{Sync, fresh}
 use Rattle.train_receiver.specs.RealTiming.{recordOf}

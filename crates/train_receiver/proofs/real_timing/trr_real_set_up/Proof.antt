@@ -7,7 +7,6 @@ use Rattle.timing.specs.Setup.{tuned}
 use Rattle.timing.specs.Run.{Opening, OpeningGiven, openedBy}
 use Rattle.symbol_sync.specs.declared.real.SetUp.{SetUp}
 use Rattle.symbol_sync.specs.Real.{opening}
-use Rattle.train_receiver.specs.declared.real_timing.RealSetUp.{RealSetUp}
 use Rattle.train_receiver.specs.Codes.{detectorOf}
 use Rattle.train_receiver.specs.RealTiming.{setUpOf}
 use Rattle.train_receiver.proofs.Laws.Codes.{refused-not-done}

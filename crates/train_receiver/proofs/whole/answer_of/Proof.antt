@@ -1,5 +1,5 @@
 -- `train_receiver::whole::answer_of` meets its contract: by what the set-up answered. Assumes nothing.
-use mathlib.Core.Path.{_≡_, sym, ap, _∙_, subst}
+use mathlib.Core.Path.{sym, ap, _∙_, subst}
 use Rattle.receiver.specs.Record.{SetUpGiven}
 use Rattle.train_receiver.specs.Whole.{setUpOf}
 use Rattle.train_receiver.proofs.Laws.Codes.{refused-not-done}

@@ -1,5 +1,4 @@
 -- `train_receiver::whole::no_receiver` meets its contract: every field is zero. Assumes nothing.
-use mathlib.Core.Path.{_≡_}
 use borrow.Author.Needs.{needs}
 use Rattle.train_receiver.proofs.whole.no_receiver.Statement.{statement}
 use Rattle.train_receiver.proofs.whole.no_receiver.Tie as tie

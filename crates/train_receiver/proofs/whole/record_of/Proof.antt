@@ -1,5 +1,4 @@
 -- `train_receiver::whole::record_of` meets its contract: each loop's record is that of its state. Assumes nothing.
-use mathlib.Core.Path.{_≡_}
 use borrow.Author.Needs.{needs}
 use Rattle.train_receiver.proofs.whole.record_of.Statement.{statement}
 use Rattle.train_receiver.proofs.whole.record_of.Tie as tie

@@ -1,5 +1,5 @@
 -- `train_receiver::whole::run` meets its contract: the receiver goes in, runs, and its record comes out. Assumes nothing.
-use mathlib.Core.Path.{_≡_, ap, _∙_}
+use mathlib.Core.Path.{ap, _∙_}
 use Rattle.receiver.specs.declared.record.Receiver.{Receiver}
 use Rattle.receiver.specs.Call.{called}
 use Rattle.train_receiver.proofs.Laws.Recorded.{stands, stays-given, came-given}

@@ -1,5 +1,4 @@
 -- `train_receiver::whole::trr_receiver_readings` meets its contract: both loops' readings, and the count. Assumes nothing.
-use mathlib.Core.Path.{_≡_}
 use borrow.Author.Needs.{needs}
 use Rattle.train_receiver.proofs.whole.trr_receiver_readings.Statement.{statement}
 use Rattle.train_receiver.proofs.whole.trr_receiver_readings.Tie as tie

@@ -1,7 +1,4 @@
 -- `train_receiver::whole::values_of` meets its contract: the detector is the one that the code stands for. Assumes nothing.
-use mathlib.Core.Path.{ap}
-use Rattle.timing.specs.declared.params.Ted.{Ted}
-use Rattle.receiver.specs.declared.record.TimingValues.{TimingValues}
 use borrow.Author.Needs.{needs}
 use Rattle.train_receiver.proofs.whole.values_of.Statement.{statement}
 use Rattle.train_receiver.proofs.whole.values_of.Tie as tie

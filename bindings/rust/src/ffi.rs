@@ -1,0 +1,387 @@
+//! The static library as it is: its records with their layout, and its functions.
+//!
+//! `crates/train_receiver/src` has the contract of each function. A slice of f32 goes as a pointer and
+//! a count.
+//!
+//! What every caller must hold to:
+//!
+//! - A record is one that a set-up, reset, setter or run of the library has given. Nobody else writes
+//!   it. A refused set-up has given none.
+//! - No pointer is null, even where the count is 0. The record and the buffers of one call do not
+//!   overlap.
+//! - Counts of buffers are counts of f32, two a complex sample. `consumed` and `produced` count samples.
+//!
+//! A code other than the named ones reads as the last one.
+
+/// A complex sample, real part first.
+#[derive(Clone, Copy, Debug)]
+#[repr(C)]
+pub struct C32 {
+    /// Real part.
+    pub re: f32,
+    /// Imaginary part.
+    pub im: f32,
+}
+
+/// The counts of a call, in samples.
+#[derive(Clone, Copy, Debug, PartialEq, Eq)]
+#[repr(C)]
+pub struct Progress {
+    /// Input samples consumed. The next call's input begins with the first one that is not.
+    pub consumed: usize,
+    /// Output samples produced, at the front of the output.
+    pub produced: usize,
+}
+
+/// What a call answers: document 01's number, 0 where it is done, and the counts.
+#[derive(Clone, Copy, Debug, PartialEq, Eq)]
+#[repr(C)]
+pub struct Counts {
+    /// Document 01's number, 0 where the call is done.
+    pub number: u32,
+    /// Input samples consumed; 0 where the call is refused.
+    pub consumed: usize,
+    /// Output samples produced; 0 where the call is refused.
+    pub produced: usize,
+}
+
+/// What a timing loop is set up with.
+#[derive(Clone, Copy, Debug)]
+#[repr(C)]
+pub struct TimingValues {
+    /// Samples per symbol.
+    pub sps: f64,
+    /// 0 Gardner, 1 Mueller-Müller.
+    pub ted: u32,
+    /// Loop bandwidth, as a fraction of the symbol rate.
+    pub loop_bw: f64,
+    /// Damping.
+    pub damping: f64,
+    /// Largest deviation of the pace from sps, as a fraction of sps.
+    pub max_deviation: f64,
+    /// Detector gain.
+    pub ted_gain: f64,
+}
+
+/// What a carrier loop is set up with, but for its constellation.
+#[derive(Clone, Copy, Debug)]
+#[repr(C)]
+pub struct CarrierValues {
+    /// Loop bandwidth, as a fraction of the symbol rate.
+    pub loop_bw: f64,
+    /// Damping.
+    pub damping: f64,
+    /// Largest frequency offset, in cycles per symbol.
+    pub max_offset: f64,
+}
+
+/// The parameters of a timing state.
+#[derive(Clone, Copy, Debug)]
+#[repr(C)]
+pub struct TimingParams {
+    /// Samples per symbol.
+    pub sps: f64,
+    /// 0 Gardner, 1 Mueller-Müller.
+    pub ted: u32,
+    /// Loop bandwidth, as a fraction of the symbol rate.
+    pub loop_bw: f64,
+    /// Damping.
+    pub damping: f64,
+    /// Largest deviation of the pace from sps, as a fraction of sps.
+    pub max_deviation: f64,
+    /// Detector gain.
+    pub ted_gain: f64,
+    /// Proportional gain, in samples per unit of the detector.
+    pub kp: f64,
+    /// Integral gain, in samples per unit of the detector.
+    pub ki: f64,
+    /// Limit of the integrator, in samples.
+    pub lim: f64,
+}
+
+/// The clock of a timing state.
+#[derive(Clone, Copy, Debug)]
+#[repr(C)]
+pub struct Clock {
+    /// Position of the next strobe, in samples from the first one of the history: the whole part.
+    pub i: usize,
+    /// The fraction of that position.
+    pub mu: f64,
+    /// Spacing of the strobes, in samples.
+    pub omega: f64,
+    /// Integrator of the loop filter, in samples.
+    pub integ: f64,
+}
+
+/// The last three samples, oldest first.
+#[derive(Clone, Copy, Debug)]
+#[repr(C)]
+pub struct Hist<T> {
+    /// The oldest.
+    pub a: T,
+    /// The one between.
+    pub b: T,
+    /// The newest.
+    pub c: T,
+}
+
+/// What a timing run changes.
+#[derive(Clone, Copy, Debug)]
+#[repr(C)]
+pub struct TimingTrack<T> {
+    /// The clock.
+    pub clock: Clock,
+    /// The previous strobe.
+    pub y_prev: T,
+    /// The previous decision.
+    pub d_prev: T,
+    /// The middle sample, where `mid_ready`.
+    pub mid: T,
+    /// Whether a middle sample is held.
+    pub mid_ready: bool,
+    /// Whether there was a strobe.
+    pub started: bool,
+}
+
+/// A timing state.
+#[derive(Clone, Copy, Debug)]
+#[repr(C)]
+pub struct Timing<T> {
+    /// What the set-up settled.
+    pub params: TimingParams,
+    /// The history.
+    pub hist: Hist<T>,
+    /// What a run changes.
+    pub track: TimingTrack<T>,
+}
+
+/// The answer of a timing set-up. Where the number is not 0 there is no state, only zeros.
+#[derive(Clone, Copy, Debug)]
+#[repr(C)]
+pub struct TimingSetUp<T> {
+    /// Document 01's number, 0 where the set-up is done.
+    pub number: u32,
+    /// The state.
+    pub state: Timing<T>,
+}
+
+/// What a timing state tells of itself.
+#[derive(Clone, Copy, Debug)]
+#[repr(C)]
+pub struct TimingReadings {
+    /// The values of the set-up.
+    pub values: TimingValues,
+    /// Position of the next strobe in samples, from the first one of the next call's input.
+    pub next_strobe: f64,
+    /// The pace: the estimate of the samples per symbol.
+    pub sps_estimate: f64,
+}
+
+/// The parameters of a carrier state.
+#[derive(Clone, Copy, Debug)]
+#[repr(C)]
+pub struct CarrierParams {
+    /// Loop bandwidth, as a fraction of the symbol rate.
+    pub loop_bw: f64,
+    /// Damping.
+    pub damping: f64,
+    /// Largest frequency offset, in cycles per symbol, as it was given.
+    pub max_offset: f64,
+    /// Proportional gain, in cycles per symbol per unit of the detector.
+    pub kp: f32,
+    /// Integral gain, in cycles per symbol per unit of the detector.
+    pub ki: f32,
+    /// Limit of the frequency, in cycles per symbol.
+    pub max: f32,
+}
+
+/// The oscillator.
+#[derive(Clone, Copy, Debug)]
+#[repr(C)]
+pub struct Nco {
+    /// Phase before the next symbol, in units of 2^-32 turn.
+    pub phase: u32,
+    /// Frequency, in cycles per symbol.
+    pub freq: f32,
+}
+
+/// The lock detector.
+#[derive(Clone, Copy, Debug)]
+#[repr(C)]
+pub struct Lock {
+    /// The smoothed lock measure.
+    pub level: f32,
+    /// Whether there is lock.
+    pub locked: bool,
+}
+
+/// What a carrier run changes.
+#[derive(Clone, Copy, Debug)]
+#[repr(C)]
+pub struct CarrierTrack {
+    /// The oscillator.
+    pub nco: Nco,
+    /// The lock detector.
+    pub lock: Lock,
+}
+
+/// A carrier state.
+#[derive(Clone, Copy, Debug)]
+#[repr(C)]
+pub struct Carrier {
+    /// 0 BPSK, 1 QPSK, 2 8-PSK.
+    pub constellation: u32,
+    /// What the set-up settled.
+    pub params: CarrierParams,
+    /// What a run changes.
+    pub track: CarrierTrack,
+}
+
+/// The answer of a carrier set-up. Where the number is not 0 there is no state, only zeros.
+#[derive(Clone, Copy, Debug)]
+#[repr(C)]
+pub struct CarrierSetUp {
+    /// Document 01's number, 0 where the set-up is done.
+    pub number: u32,
+    /// The state.
+    pub state: Carrier,
+}
+
+/// What a carrier state tells of itself.
+#[derive(Clone, Copy, Debug)]
+#[repr(C)]
+pub struct CarrierReadings {
+    /// 0 BPSK, 1 QPSK, 2 8-PSK.
+    pub constellation: u32,
+    /// The values of the set-up.
+    pub values: CarrierValues,
+    /// Frequency, in cycles per symbol.
+    pub frequency: f64,
+    /// Phase before the next symbol, in units of 2^-32 turn.
+    pub phase: u32,
+    /// The smoothed lock measure.
+    pub lock_level: f32,
+    /// Whether there is lock.
+    pub locked: bool,
+}
+
+/// The receiver record.
+#[derive(Clone, Copy, Debug)]
+#[repr(C)]
+pub struct Receiver {
+    /// The timing loop.
+    pub timing: Timing<C32>,
+    /// The carrier loop.
+    pub carrier: Carrier,
+    /// Symbols produced since the set-up or the last reset. It stops at the top.
+    pub count: u32,
+}
+
+/// The answer of a receiver's set-up. Where the number is not 0 there is no receiver, only zeros.
+#[derive(Clone, Copy, Debug)]
+#[repr(C)]
+pub struct ReceiverSetUp {
+    /// Document 01's number, 0 where the set-up is done.
+    pub number: u32,
+    /// The receiver.
+    pub receiver: Receiver,
+}
+
+/// What a receiver tells of itself.
+#[derive(Clone, Copy, Debug)]
+#[repr(C)]
+pub struct ReceiverReadings {
+    /// What the timing loop tells.
+    pub timing: TimingReadings,
+    /// What the carrier loop tells.
+    pub carrier: CarrierReadings,
+    /// Symbols produced since the set-up or the last reset. It stops at the top.
+    pub count: u32,
+}
+
+unsafe extern "C" {
+    // Timing, real samples.
+
+    /// Sets up a loop over real samples. Numbers: 0, and 1 to 6.
+    pub fn trr_real_set_up(v: TimingValues) -> TimingSetUp<f32>;
+    /// The state as it was just after its set-up.
+    pub fn trr_real_reset(x: Timing<f32>) -> Timing<f32>;
+    /// What the state tells of itself.
+    pub fn trr_real_readings(x: Timing<f32>) -> TimingReadings;
+    /// One run over real samples. It is never refused.
+    pub fn trr_real_run(
+        x: *mut Timing<f32>,
+        input: *const f32,
+        input_len: usize,
+        output: *mut f32,
+        output_len: usize,
+    ) -> Progress;
+
+    // Timing, complex samples.
+
+    /// Sets up a loop over complex samples. Numbers: 0, and 1 to 6.
+    pub fn trr_complex_set_up(v: TimingValues) -> TimingSetUp<C32>;
+    /// The state as it was just after its set-up.
+    pub fn trr_complex_reset(x: Timing<C32>) -> Timing<C32>;
+    /// What the state tells of itself.
+    pub fn trr_complex_readings(x: Timing<C32>) -> TimingReadings;
+    /// One run over complex samples. Numbers: 0 and 8.
+    pub fn trr_complex_run(
+        x: *mut Timing<C32>,
+        input: *const f32,
+        input_len: usize,
+        output: *mut f32,
+        output_len: usize,
+    ) -> Counts;
+
+    // The carrier.
+
+    /// Sets up a carrier loop. Numbers: 0, 2, 3 and 4.
+    pub fn trr_carrier_set_up(constellation: u32, v: CarrierValues) -> CarrierSetUp;
+    /// The state as it was just after its set-up.
+    pub fn trr_carrier_reset(x: Carrier) -> Carrier;
+    /// The state with this phase, in units of 2^-32 turn.
+    pub fn trr_carrier_set_phase(x: Carrier, phase: u32) -> Carrier;
+    /// The state with this frequency, in cycles per symbol, narrowed, flushed and limited.
+    pub fn trr_carrier_set_frequency(x: Carrier, freq: f64) -> Carrier;
+    /// What the state tells of itself.
+    pub fn trr_carrier_readings(x: Carrier) -> CarrierReadings;
+    /// One run: an output sample for each input sample. Numbers: 0, 7 and 8.
+    pub fn trr_carrier_run(
+        x: *mut Carrier,
+        input: *const f32,
+        input_len: usize,
+        output: *mut f32,
+        output_len: usize,
+    ) -> u32;
+
+    // The receiver.
+
+    /// Sets up a receiver. Numbers: 0, and 1 to 6.
+    pub fn trr_receiver_set_up(
+        constellation: u32,
+        t: TimingValues,
+        c: CarrierValues,
+    ) -> ReceiverSetUp;
+    /// The same without a constellation, which takes BPSK.
+    pub fn trr_receiver_set_up_unnamed(t: TimingValues, c: CarrierValues) -> ReceiverSetUp;
+    /// The receiver as it was just after its set-up.
+    pub fn trr_receiver_reset(x: Receiver) -> Receiver;
+    /// The receiver with this phase of the carrier, in units of 2^-32 turn.
+    pub fn trr_receiver_set_phase(x: Receiver, phase: u32) -> Receiver;
+    /// What the receiver tells of itself.
+    pub fn trr_receiver_readings(x: Receiver) -> ReceiverReadings;
+    /// One call: timing into the strobe buffer, the carrier from there into the output. Numbers: 0, 7
+    /// and 8.
+    pub fn trr_receiver_receive(
+        x: *mut Receiver,
+        input: *const f32,
+        input_len: usize,
+        strobes: *mut f32,
+        strobes_len: usize,
+        output: *mut f32,
+        output_len: usize,
+    ) -> Counts;
+    /// The symbol number of an output sample.
+    pub fn trr_symbol_number(constellation: u32, re: f32, im: f32) -> usize;
+}

@@ -1,0 +1,75 @@
+//! What the loops are set up with. "Ends of ranges are accepted".
+
+use crate::detector::Detector;
+use crate::ffi;
+
+/// What a timing loop is set up with.
+#[derive(Clone, Copy, Debug, PartialEq)]
+pub struct TimingValues {
+    /// Samples per symbol, 2 to 1,000,000.
+    pub sps: f64,
+    /// The detector.
+    pub ted: Detector,
+    /// Loop bandwidth as a fraction of the symbol rate, 0.0001 to 0.1.
+    pub loop_bw: f64,
+    /// Damping, 0.1 to 4.
+    pub damping: f64,
+    /// Largest deviation of the pace from `sps`, as a fraction of `sps`, 0 to 0.05.
+    pub max_deviation: f64,
+    /// Detector gain, above 0: the detector's value divided by the offset in symbols, for small
+    /// offsets.
+    pub ted_gain: f64,
+}
+
+impl TimingValues {
+    pub(crate) fn raw(self) -> ffi::TimingValues {
+        ffi::TimingValues {
+            sps: self.sps,
+            ted: self.ted.code(),
+            loop_bw: self.loop_bw,
+            damping: self.damping,
+            max_deviation: self.max_deviation,
+            ted_gain: self.ted_gain,
+        }
+    }
+
+    pub(crate) fn from_raw(raw: ffi::TimingValues) -> Self {
+        TimingValues {
+            sps: raw.sps,
+            ted: Detector::from_code(raw.ted),
+            loop_bw: raw.loop_bw,
+            damping: raw.damping,
+            max_deviation: raw.max_deviation,
+            ted_gain: raw.ted_gain,
+        }
+    }
+}
+
+/// What a carrier loop is set up with beside its constellation.
+#[derive(Clone, Copy, Debug, PartialEq)]
+pub struct CarrierValues {
+    /// Loop bandwidth as a fraction of the symbol rate, 0.0001 to 0.2.
+    pub loop_bw: f64,
+    /// Damping, 0.1 to 4.
+    pub damping: f64,
+    /// Largest frequency offset, in cycles per symbol, 0 to 0.25.
+    pub max_offset: f64,
+}
+
+impl CarrierValues {
+    pub(crate) fn raw(self) -> ffi::CarrierValues {
+        ffi::CarrierValues {
+            loop_bw: self.loop_bw,
+            damping: self.damping,
+            max_offset: self.max_offset,
+        }
+    }
+
+    pub(crate) fn from_raw(raw: ffi::CarrierValues) -> Self {
+        CarrierValues {
+            loop_bw: raw.loop_bw,
+            damping: raw.damping,
+            max_offset: raw.max_offset,
+        }
+    }
+}

@@ -1,0 +1,116 @@
+//! Codes and numbers are those of the C header and of document 01's table.
+
+use crate::{CONSTELLATIONS, DETECTORS, carrier, timing};
+use train_receiver::{Constellation, Detector, Refusal, ffi, symbol_number};
+
+const HEADER: &str = include_str!("../../../c/train_receiver.h");
+
+fn header_has(constant: &str, value: u32) {
+    let line = format!("    {constant} = {value}");
+    let found = HEADER
+        .lines()
+        .filter(|l| l.trim_end_matches(',') == line)
+        .count();
+    assert_eq!(found, 1, "{line}");
+}
+
+#[test]
+fn refusals() {
+    header_has("TRR_DONE", 0);
+    for (k, refusal) in (1..).zip(Refusal::ALL) {
+        assert_eq!(refusal.number(), k);
+        header_has(&format!("TRR_{}", refusal.word().to_uppercase()), k);
+    }
+    assert_eq!(
+        Refusal::Pace.to_string(),
+        "pace: sps is not finite or not in 2 to 1,000,000"
+    );
+    assert_eq!(
+        Refusal::Pull.to_string(),
+        "pull: maximum deviation (timing) not finite or not in 0 to 0.05; maximum offset (carrier, \
+         cycles per symbol) not finite or not in 0 to 0.25"
+    );
+    let error: Box<dyn std::error::Error> = Box::new(Refusal::Odd);
+    assert_eq!(
+        error.to_string(),
+        "odd: a complex buffer has an odd count of f32"
+    );
+}
+
+#[test]
+fn named_codes() {
+    for (constant, detector) in ["TRR_GARDNER", "TRR_MUELLER_MUELLER"].iter().zip(DETECTORS) {
+        header_has(constant, detector.code());
+        assert_eq!(Detector::from_code(detector.code()), detector);
+    }
+    for (constant, points) in ["TRR_BPSK", "TRR_QPSK", "TRR_PSK8"]
+        .iter()
+        .zip(CONSTELLATIONS)
+    {
+        header_has(constant, points.code());
+        assert_eq!(Constellation::from_code(points.code()), points);
+    }
+}
+
+#[test]
+fn other_codes_read_as_the_last_one() {
+    let values = timing(4.0, Detector::Gardner);
+    let loops = carrier();
+    for code in [3, 7, u32::MAX] {
+        let t = ffi::TimingValues {
+            sps: values.sps,
+            ted: code,
+            loop_bw: values.loop_bw,
+            damping: values.damping,
+            max_deviation: values.max_deviation,
+            ted_gain: values.ted_gain,
+        };
+        let c = ffi::CarrierValues {
+            loop_bw: loops.loop_bw,
+            damping: loops.damping,
+            max_offset: loops.max_offset,
+        };
+        // SAFETY: a set-up takes any values.
+        let answer = unsafe { ffi::trr_receiver_set_up(code, t, c) };
+        assert_eq!(answer.number, 0);
+        assert_eq!(answer.receiver.timing.params.ted, 1);
+        assert_eq!(answer.receiver.carrier.constellation, 2);
+        // SAFETY: the function takes any code and any f32.
+        let number = unsafe { ffi::trr_symbol_number(code, 1.0, -0.5) };
+        assert_eq!(number, 7);
+        assert_eq!(Detector::from_code(code), Detector::MuellerMuller);
+        assert_eq!(Constellation::from_code(code), Constellation::Psk8);
+    }
+}
+
+#[test]
+fn symbol_numbers() {
+    // One sample in the middle of each octant.
+    let around = [
+        (2.0, 1.0),
+        (1.0, 2.0),
+        (-1.0, 2.0),
+        (-2.0, 1.0),
+        (-2.0, -1.0),
+        (-1.0, -2.0),
+        (1.0, -2.0),
+        (2.0, -1.0),
+    ];
+    for (k, (re, im)) in around.into_iter().enumerate() {
+        assert_eq!(symbol_number(Constellation::Psk8, re, im), k);
+        assert_eq!(symbol_number(Constellation::Qpsk, re, im), k / 2);
+        let left = usize::from(re < 0.0);
+        assert_eq!(symbol_number(Constellation::Bpsk, re, im), left);
+    }
+    // "*8-PSK (1, 1): octant 1; *(0, 1): 2."
+    assert_eq!(symbol_number(Constellation::Psk8, 1.0, 1.0), 1);
+    assert_eq!(symbol_number(Constellation::Psk8, 0.0, 1.0), 2);
+    // "BPSK 1 if re is negative, or zero with im negative, else 0."
+    assert_eq!(symbol_number(Constellation::Bpsk, 0.0, -1.0), 1);
+    assert_eq!(symbol_number(Constellation::Bpsk, 0.0, 1.0), 0);
+    // "Silence reads as 0."
+    for points in CONSTELLATIONS {
+        assert_eq!(symbol_number(points, 0.0, 0.0), 0);
+        assert_eq!(symbol_number(points, f32::NAN, f32::NAN), 0);
+    }
+}
