@@ -1,10 +1,15 @@
 // Derotation and the phase detectors, from kernels/costas.rs and fallback/costas.rs. In f32, one
 // rounding each.
 use crate::constellation::CostasConstellation;
+use crate::octants::size;
 use mix::Pair;
 use values::C32;
 ghost use mathlib.Core.Path.{_≡_};
-ghost use Rattle.timing.specs.Part.{signOf, _⊗_};
+ghost use mathlib.Core.Bool.{true};
+ghost use lib.Ieee.{lt};
+ghost use Rattle.ieee.specs.Constants.{zero₀};
+ghost use Rattle.timing.specs.Part.{signOf, _⊗_, _⊖_};
+ghost use Rattle.carrier.specs.Octant.{sizeOf};
 ghost use Rattle.carrier.specs.Detector.{derotated, detected};
 
 // The derotated sample y = x exp(-j phi), with q the cosine and sine of phi.
@@ -33,13 +38,34 @@ pub fn sign_times(x: f32, y: f32) -> f32
     }
 }
 
+// sign(x) * y of an x that is neither zero nor NaN.
+fn with_sign(x: f32, y: f32) -> f32
+    requires { ⌜ lt zero₀ (sizeOf x) ≡ true ⌝ }
+    ensures { λ r. ⌜ r ≡ signOf x ⊗ y ⌝ }
+{
+    if x < 0.0 { -y } else { y }
+}
+
+// The detector sign(y.re) y.im - sign(y.im) y.re. A part that is zero or NaN has a path of its own,
+// which is well foretold: so the choice of 0 does not lie on the chain from symbol to symbol.
+fn detector4(y: C32) -> f32
+    ensures { λ r. ⌜ r ≡ signOf (y .re) ⊗ y .im ⊖ signOf (y .im) ⊗ y .re ⌝ }
+{
+    if size(y.re) > 0.0 {
+        if size(y.im) > 0.0 {
+            return with_sign(y.re, y.im) - with_sign(y.im, y.re);
+        }
+    }
+    sign_times(y.re, y.im) - sign_times(y.im, y.re)
+}
+
 // The detector's value of y, held against the point d; it may not be finite.
 pub fn detector(constellation: CostasConstellation, y: C32, d: C32) -> f32
     ensures { λ r. ⌜ r ≡ detected constellation y d ⌝ }
 {
     match constellation {
         CostasConstellation::Bpsk => y.re * y.im,
-        CostasConstellation::Qpsk => sign_times(y.re, y.im) - sign_times(y.im, y.re),
+        CostasConstellation::Qpsk => detector4(y),
         CostasConstellation::Psk8 => y.im * d.re - y.re * d.im,
     }
 }

@@ -9,6 +9,7 @@ use Rattle.ieee.proofs.Test.{yes}
 use Rattle.ieee.proofs.Order.{lt→le, le→not-lt}
 use Rattle.ieee.proofs.Exact.{one-times}
 use Rattle.timing.specs.Part.{signOf, _⊗_}
+use Rattle.carrier.specs.Octant.{sizeOf}
 
 -- by the two tests
 abbrev by : Bool → Bool → Float → Float
@@ -29,3 +30,12 @@ sign-none x y p q = sign-by x y p q
 
 pub above-not-below : (x : Float) → lt zero₀ x ≡ true → lt x zero₀ ≡ true → ⊥
 above-not-below x p q = yes (sym (le→not-lt zero₀ x (lt→le zero₀ x (yes p))) ∙ q)
+
+-- of an x whose size lies above 0 the test below 0 alone decides
+pub sign-sized : (x y : Float) → T (fits binary32 y) → lt zero₀ (sizeOf x) ≡ true → cond (lt x zero₀) (neg y) y ≡ signOf x ⊗ y
+unfolding sizeOf
+sign-sized x y t p = go (lt x zero₀) refl p
+  where
+    go : (b : Bool) → lt x zero₀ ≡ b → lt zero₀ (cond b (neg x) x) ≡ true → cond b (neg y) y ≡ signOf x ⊗ y
+    go true below above = sign-below x y t (le→not-lt x zero₀ (lt→le x zero₀ (yes below))) below
+    go false below above = sign-above x y t above

@@ -1,11 +1,9 @@
 -- `carrier::detector` meets its contract: the definition goes by the constellation. Assumes nothing.
 use mathlib.Core.Path.{sym, _∙_}
-use lib.Ieee.{binary32, sub}
 use Rattle.carrier.specs.Detector.{detected}
 use borrow.Author.Needs.{needs}
 use Rattle.carrier.proofs.detection.detector.Statement.{statement}
 use Rattle.carrier.proofs.detection.detector.Tie as tie
-use Rattle.carrier.proofs.detection.sign_times.Reads as sign-times-reads
 
 enum-told : tie.Need-enum-told
 enum-told c = search needs
@@ -13,11 +11,8 @@ enum-told c = search needs
 enum-told-2 : tie.Need-enum-told-2
 enum-told-2 c = search needs
 
-sign-times-requires : tie.Need-sign-times-requires
-sign-times-requires c κs = search needs
-
-sign-times-requires-2 : tie.Need-sign-times-requires-2
-sign-times-requires-2 c κs = search needs
+detector4-requires : tie.Need-detector4-requires
+detector4-requires c κs = search needs
 
 enum-told-3 : tie.Need-enum-told-3
 enum-told-3 c = search needs
@@ -28,7 +23,7 @@ returns c = let a = c .before .before .before .args in λ j. detected (sym (c .b
 
 returns-2 : tie.Need-returns-2
 unfolding detected
-returns-2 c = let a = c .before .before .before .before .args in (λ j. sub binary32 (c .before .sign-times .ensures j) (c .sign-times2 .ensures j)) ∙ (λ j. detected (sym (c .before .before .enum-told2 .given .1) j) (a .y) (a .d))
+returns-2 c = let a = c .before .before .before .args in c .detector4 .ensures ∙ (λ j. detected (sym (c .before .enum-told2 .given .1) j) (a .y) (a .d))
 
 returns-3 : tie.Need-returns-3
 unfolding detected
@@ -40,8 +35,7 @@ detector-spec =
     (tie.spec
     enum-told
     enum-told-2
-    sign-times-requires
-    sign-times-requires-2
+    detector4-requires
     enum-told-3
     returns
     returns-2
