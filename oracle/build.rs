@@ -10,8 +10,6 @@ use std::path::{Path, PathBuf};
 const DEFAULT_SOURCES: &str = "../../shared/docs/src";
 /// The original crate's own folder inside the sources.
 const CRATE: &str = "crates/core/sdrk-core/src";
-/// The folder of the ported loops, seen from this one, and their names.
-const PORTED: (&str, [&str; 2]) = ("../target/staticlib", ["timing_once", "carrier_once"]);
 /// What the original files may do that we do not look at.
 const ALLOW: &str = "#[allow(dead_code, unused_imports, clippy::all, clippy::pedantic)]";
 
@@ -39,26 +37,6 @@ fn main() {
     let tree = module_tree(&here, &sources_folder(&here));
     write(&out.join("original.rs"), &tree);
     write(&out.join("cosine_table.rs"), &cosine_table(&here));
-    if env::var_os("CARGO_FEATURE_PORTED").is_some() {
-        link_ported(&here);
-    }
-}
-
-/// Links the ported loops.
-fn link_ported(here: &Path) {
-    let (folder, names) = PORTED;
-    let folder = here.join(folder);
-    println!("cargo::rustc-link-search=native={}", folder.display());
-    for name in names {
-        let file = folder.join(format!("lib{name}.a"));
-        assert!(
-            file.is_file(),
-            "there is no {}: 'rt staticlib {name}' writes it",
-            file.display()
-        );
-        println!("cargo::rerun-if-changed={}", file.display());
-        println!("cargo::rustc-link-lib=static={name}");
-    }
 }
 
 /// The original crate's folder. A relative `SDRK_SRC` is seen from this folder.

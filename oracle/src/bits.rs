@@ -1,5 +1,7 @@
 //! Bit patterns as text, and samples as the words of their parts.
 
+use std::iter::repeat_n;
+
 use crate::types::{C32, Sample};
 
 /// How every f32 NaN is written: the compiled code may make any pattern.
@@ -99,19 +101,19 @@ impl Parts for C32 {
     }
 }
 
-/// Words of parts as samples.
+/// Words of parts as samples. A star and a count behind a word say how often it comes.
 pub fn read_samples<T: Parts>(words: &[&str]) -> Result<Vec<T>, String> {
-    if !words.len().is_multiple_of(T::COUNT) {
+    let mut parts = Vec::with_capacity(words.len());
+    for word in words {
+        let (part, count) = word.split_once('*').unwrap_or((word, "1"));
+        parts.extend(repeat_n(read_f32(part)?, read_count(count)?));
+    }
+    if !parts.len().is_multiple_of(T::COUNT) {
         return Err("a complex sample is two words".to_string());
     }
-    words
-        .chunks(T::COUNT)
-        .map(|sample| {
-            let first = read_f32(sample[0])?;
-            let last = read_f32(sample[T::COUNT - 1])?;
-            Ok(T::of_pair(first, last))
-        })
-        .collect()
+    let samples = parts.chunks(T::COUNT);
+    let sample = |parts: &[f32]| T::of_pair(parts[0], parts[T::COUNT - 1]);
+    Ok(samples.map(sample).collect())
 }
 
 /// Samples as words of parts, each with a space before it.

@@ -1,9 +1,9 @@
 //! Compares the original's two implementations with each other on random sessions, and checks
 //! on the way what document 01 says of every state and answer.
 
-mod carrier;
-mod tally;
-mod timing;
+pub mod carrier;
+pub mod tally;
+pub mod timing;
 
 use std::fmt::Write as _;
 

@@ -36,27 +36,34 @@ impl Value {
 /// A field: its name and its values, one for each part of each sample.
 pub type Field = (&'static str, Vec<Value>);
 
+/// What is shown a value, with its field's name.
+pub type See<'a> = dyn FnMut(&'static str, Value) + 'a;
+
 /// A state that can be read field by field.
 pub trait Fields {
+    /// Shows the values of all fields, in order.
+    fn each(&self, see: &mut See);
+
+    /// Shows what is told of the state beside its fields.
+    fn readings(&self, _see: &mut See) {}
+
     /// All fields, then the readings.
-    fn fields(&self) -> Vec<Field>;
+    fn fields(&self) -> Vec<Field> {
+        let mut list: Vec<Field> = Vec::new();
+        let mut see = |name, value| match list.last_mut() {
+            Some((last, values)) if *last == name => values.push(value),
+            _ => list.push((name, vec![value])),
+        };
+        self.each(&mut see);
+        self.readings(&mut see);
+        list
+    }
 }
 
-fn double(name: &'static str, x: f64) -> Field {
-    (name, vec![Value::Double(x)])
-}
-
-fn single(name: &'static str, x: f32) -> Field {
-    (name, vec![Value::Single(x)])
-}
-
-fn code(name: &'static str, c: u8) -> Field {
-    (name, vec![Value::Code(c)])
-}
-
-fn samples<T: Parts>(name: &'static str, samples: &[T]) -> Field {
-    let parts = samples.iter().flat_map(|sample| sample.parts());
-    (name, parts.map(Value::Single).collect())
+fn samples<T: Parts>(see: &mut See, name: &'static str, samples: &[T]) {
+    for part in samples.iter().flat_map(|sample| sample.parts()) {
+        see(name, Value::Single(part));
+    }
 }
 
 /// The number of a detector.
@@ -79,7 +86,7 @@ pub fn constellation_code(constellation: CostasConstellation) -> u8 {
 }
 
 impl<T: Parts> Fields for SymbolSyncState<T> {
-    fn fields(&self) -> Vec<Field> {
+    fn each(&self, see: &mut See) {
         let SymbolSyncState {
             sps,
             ted,
@@ -101,34 +108,35 @@ impl<T: Parts> Fields for SymbolSyncState<T> {
             mid_ready,
             started,
         } = *self;
-        vec![
-            double("sps", sps),
-            code("ted", ted_code(ted)),
-            double("loop_bw", loop_bw),
-            double("damping", damping),
-            double("max_deviation", max_deviation),
-            double("ted_gain", ted_gain),
-            double("kp", kp),
-            double("ki", ki),
-            double("lim", lim),
-            samples("hist", &hist),
-            ("i", vec![Value::Count(i)]),
-            double("mu", mu),
-            double("omega", omega),
-            double("integ", integ),
-            samples("y_prev", &[y_prev]),
-            samples("d_prev", &[d_prev]),
-            samples("mid", &[mid]),
-            code("mid_ready", u8::from(mid_ready)),
-            code("started", u8::from(started)),
-            double("next_strobe", self.next_strobe()),
-            double("sps_estimate", self.sps_estimate()),
-        ]
+        see("sps", Value::Double(sps));
+        see("ted", Value::Code(ted_code(ted)));
+        see("loop_bw", Value::Double(loop_bw));
+        see("damping", Value::Double(damping));
+        see("max_deviation", Value::Double(max_deviation));
+        see("ted_gain", Value::Double(ted_gain));
+        see("kp", Value::Double(kp));
+        see("ki", Value::Double(ki));
+        see("lim", Value::Double(lim));
+        samples(see, "hist", &hist);
+        see("i", Value::Count(i));
+        see("mu", Value::Double(mu));
+        see("omega", Value::Double(omega));
+        see("integ", Value::Double(integ));
+        samples(see, "y_prev", &[y_prev]);
+        samples(see, "d_prev", &[d_prev]);
+        samples(see, "mid", &[mid]);
+        see("mid_ready", Value::Code(u8::from(mid_ready)));
+        see("started", Value::Code(u8::from(started)));
+    }
+
+    fn readings(&self, see: &mut See) {
+        see("next_strobe", Value::Double(self.next_strobe()));
+        see("sps_estimate", Value::Double(self.sps_estimate()));
     }
 }
 
 impl Fields for CostasState {
-    fn fields(&self) -> Vec<Field> {
+    fn each(&self, see: &mut See) {
         let CostasState {
             constellation,
             loop_bw,
@@ -142,19 +150,18 @@ impl Fields for CostasState {
             level,
             locked,
         } = *self;
-        vec![
-            code("constellation", constellation_code(constellation)),
-            double("loop_bw", loop_bw),
-            double("damping", damping),
-            double("max_offset", max_offset),
-            single("kp", kp),
-            single("ki", ki),
-            single("max", max),
-            ("phase", vec![Value::Phase(phase)]),
-            single("freq", freq),
-            single("level", level),
-            code("locked", u8::from(locked)),
-        ]
+        let points = constellation_code(constellation);
+        see("constellation", Value::Code(points));
+        see("loop_bw", Value::Double(loop_bw));
+        see("damping", Value::Double(damping));
+        see("max_offset", Value::Double(max_offset));
+        see("kp", Value::Single(kp));
+        see("ki", Value::Single(ki));
+        see("max", Value::Single(max));
+        see("phase", Value::Phase(phase));
+        see("freq", Value::Single(freq));
+        see("level", Value::Single(level));
+        see("locked", Value::Code(u8::from(locked)));
     }
 }
 

@@ -23,6 +23,8 @@ mod random;
 mod receiver_runs;
 mod refusal;
 mod runs;
+#[cfg(feature = "ported")]
+mod scale;
 mod script;
 mod signal;
 #[cfg(feature = "ported")]
@@ -43,7 +45,10 @@ usage: oracle play [--reference] SCRIPT   plays a script ('-' reads standard inp
        oracle carrier                     writes those of the carrier loop
        oracle receiver                    writes those of the receiver
        oracle record FOLDER               writes all recorded answers, FOLDER/NAME/stdin each
-       oracle speed                       times the ported loops (feature 'ported')";
+       oracle scale [--seed S] [--seconds N | --symbols N | --session K]
+                                          compares the ported loops with the original's (feature 'ported')
+       oracle speed [--readme FILE]       times the ported loops (feature 'ported'); the table goes into
+                                          FILE too, between its two lines for it";
 
 /// Makes the text of one file of recorded answers.
 type Make = fn() -> String;
@@ -75,7 +80,16 @@ fn main() -> ExitCode {
         ["receiver"] => write_out(&receiver_runs::recorded()),
         ["record", folder] => record(Path::new(folder)),
         #[cfg(feature = "ported")]
+        ["scale", ref options @ ..] => match scale::scale(options) {
+            Some(report) => tell(&report),
+            None => Err(USAGE.to_string()),
+        },
+        #[cfg(feature = "ported")]
         ["speed"] => tell(&speed::speed()),
+        #[cfg(feature = "ported")]
+        ["speed", "--readme", file] => {
+            speed::speed_into(Path::new(file)).and_then(|report| tell(&report))
+        }
         _ => Err(USAGE.to_string()),
     };
     match done {

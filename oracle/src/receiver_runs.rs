@@ -17,7 +17,7 @@ use crate::{Fallback, Reference};
 
 mod cases;
 mod chains;
-mod receiver;
+pub mod receiver;
 mod set_ups;
 mod symbols;
 mod turned;

@@ -3,7 +3,7 @@
 use std::f64::consts::FRAC_1_SQRT_2;
 
 use crate::bits::fresh_output;
-use crate::error::Error;
+use crate::carrier_runs::Values;
 use crate::kernels::costas::{Costas, CostasConstellation, CostasState};
 use crate::random::Random;
 use crate::refusal;
@@ -24,14 +24,15 @@ pub fn sessions(
 ) -> Tally {
     let mut tally = Tally::new(name);
     while tally.symbols < enough {
-        let state = set_up(random, points).expect("values inside their ranges");
+        let made = values(random, points).set_up();
+        let state = made.expect("values inside their ranges");
         session(random, &mut tally, state);
     }
     tally
 }
 
-/// A state with random values, each range's ends among them.
-fn set_up(random: &mut Random, points: CostasConstellation) -> Result<CostasState, Error> {
+/// Random values, each range's ends among them.
+pub fn values(random: &mut Random, points: CostasConstellation) -> Values {
     let bandwidth = [0.0001, 0.2, 0.02, random.scaled(0.0001, 0.2)];
     let damping = [0.1, 4.0, FRAC_1_SQRT_2, random.between(0.1, 4.0)];
     let offset = [
@@ -44,12 +45,12 @@ fn set_up(random: &mut Random, points: CostasConstellation) -> Result<CostasStat
         0.25,
         random.scaled(1e-6, 0.25),
     ];
-    CostasState::new(
+    Values {
         points,
-        random.pick(&bandwidth),
-        random.pick(&damping),
-        random.pick(&offset),
-    )
+        bandwidth: random.pick(&bandwidth),
+        damping: random.pick(&damping),
+        offset: random.pick(&offset),
+    }
 }
 
 fn session(random: &mut Random, tally: &mut Tally, fresh: CostasState) {
@@ -73,7 +74,7 @@ fn session(random: &mut Random, tally: &mut Tally, fresh: CostasState) {
     }
 }
 
-fn block_length(random: &mut Random) -> usize {
+pub fn block_length(random: &mut Random) -> usize {
     match random.up_to(99) {
         0..55 => random.up_to(8),
         55..90 => random.up_to(64),
@@ -83,7 +84,7 @@ fn block_length(random: &mut Random) -> usize {
 }
 
 /// As many places as samples, now and then another count.
-fn output_places(random: &mut Random, length: usize) -> usize {
+pub fn output_places(random: &mut Random, length: usize) -> usize {
     if random.chance(0.97) {
         length
     } else {

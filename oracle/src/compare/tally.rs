@@ -5,7 +5,7 @@ use crate::fields::{Fields, Value};
 
 /// How two values stand to each other.
 #[derive(Clone, Copy, Debug, PartialEq, Eq)]
-enum Likeness {
+pub enum Likeness {
     Same,
     /// Two zeros of different signs.
     ZeroSign,
@@ -27,7 +27,7 @@ fn floats(same_bits: bool, a: f64, b: f64) -> Likeness {
     }
 }
 
-fn likeness(a: Value, b: Value) -> Likeness {
+pub fn likeness(a: Value, b: Value) -> Likeness {
     let same = match (a, b) {
         (Value::Single(a), Value::Single(b)) => {
             return floats(a.to_bits() == b.to_bits(), f64::from(a), f64::from(b));

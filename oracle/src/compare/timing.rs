@@ -3,10 +3,10 @@
 use std::f64::consts::FRAC_1_SQRT_2;
 
 use crate::bits::{Parts, fresh_output};
-use crate::error::Error;
 use crate::kernels::symbol_sync::{SymbolSync, SymbolSyncState, Ted};
 use crate::random::Random;
 use crate::refusal;
+use crate::runs::Values;
 use crate::signal::Signal;
 use crate::timing::Progress;
 use crate::{Fallback, Reference};
@@ -32,12 +32,12 @@ where
 {
     let mut tally = Tally::new(name);
     while tally.symbols < enough {
-        let made = if random.chance(FAR) {
-            far_set_up(random, ted)
+        let values = if random.chance(FAR) {
+            far_values(random, ted)
         } else {
-            set_up::<T>(random, ted)
+            values(random, ted)
         };
-        match made {
+        match values.set_up::<T>() {
             Ok(state) => session(random, &mut tally, state),
             Err(error) => {
                 tally.refused_set_ups += 1;
@@ -49,28 +49,34 @@ where
     tally
 }
 
-/// A state with random values, each range's ends among them.
-fn set_up<T: Parts>(random: &mut Random, ted: Ted) -> Result<SymbolSyncState<T>, Error> {
+/// Random values, each range's ends among them.
+pub fn values(random: &mut Random, ted: Ted) -> Values {
     let bandwidth = [0.0001, 0.1, random.scaled(0.0001, 0.1)];
     let damping = [0.1, 4.0, FRAC_1_SQRT_2, random.between(0.1, 4.0)];
     let deviation = [0.0, -0.0, 5e-324, 0.05, 0.005, random.scaled(1e-6, 0.05)];
     let ordinary = random.scaled(0.001, 1000.0);
     let odd = random.pick(&[5e-324, 1e-300, 1e-30, 1e-12, 1e12, 1e300, f64::MAX]);
     let gain = [1.0, 1.0, 2.7, ordinary, ordinary, odd];
-    SymbolSyncState::new(
-        pace(random),
-        ted,
-        random.pick(&bandwidth),
-        random.pick(&damping),
-        random.pick(&deviation),
-        random.pick(&gain),
-    )
+    Values {
+        sps: pace(random),
+        detector: ted,
+        bandwidth: random.pick(&bandwidth),
+        damping: random.pick(&damping),
+        deviation: random.pick(&deviation),
+        gain: random.pick(&gain),
+    }
 }
 
 /// The slowest pace with the widest pull and gains that drive both into their limits.
-fn far_set_up<T: Parts>(random: &mut Random, ted: Ted) -> Result<SymbolSyncState<T>, Error> {
-    let gain = random.pick(&[1e-12, 1e-6]);
-    SymbolSyncState::new(1_000_000.0, ted, 0.1, 1.0, 0.05, gain)
+pub fn far_values(random: &mut Random, ted: Ted) -> Values {
+    Values {
+        sps: 1_000_000.0,
+        detector: ted,
+        bandwidth: 0.1,
+        damping: 1.0,
+        deviation: 0.05,
+        gain: random.pick(&[1e-12, 1e-6]),
+    }
 }
 
 /// Samples for each symbol, over the whole range.
@@ -113,7 +119,7 @@ where
         if random.chance(0.02) {
             signal = Signal::new(random, fresh.sps());
         }
-        let length = block_length(random, &a);
+        let length = block_length(random, a.i, fresh.sps());
         let input = next_block(random, &mut signal, &rest, length);
         let places = output_places(random, length, fresh.sps());
         samples += length;
@@ -126,14 +132,14 @@ where
     }
 }
 
-/// A block's length: short, or just around what the next strobe needs, or some symbols.
-fn block_length<T: Parts>(random: &mut Random, state: &SymbolSyncState<T>) -> usize {
-    let around = (state.i + random.up_to(3)).saturating_sub(2);
+/// A block's length: short, or just around what the strobe at a position needs, or some symbols.
+pub fn block_length(random: &mut Random, position: usize, sps: f64) -> usize {
+    let around = (position + random.up_to(3)).saturating_sub(2);
     let some = |random: &mut Random, symbols: f64| {
-        let most = (symbols * state.sps()).min(LONGEST);
+        let most = (symbols * sps).min(LONGEST);
         random.up_to(most as usize)
     };
-    if state.sps() >= LONG_SYMBOL {
+    if sps >= LONG_SYMBOL {
         return match random.up_to(9) {
             0..2 => random.up_to(8),
             2..6 => around,
@@ -163,7 +169,7 @@ fn next_block<T: Parts>(
 }
 
 /// Output places: few, or enough for the whole block.
-fn output_places(random: &mut Random, length: usize, sps: f64) -> usize {
+pub fn output_places(random: &mut Random, length: usize, sps: f64) -> usize {
     let enough = (length as f64 / sps * 1.5) as usize + 4;
     match random.up_to(9) {
         0..2 => random.up_to(3),

@@ -74,8 +74,7 @@ impl Receiver {
         self.count = 0;
     }
 
-    /// "Timing into a strobe buffer, then the carrier over the strobes produced, into the output." In a
-    /// run number 8 comes before 7; a refused one changes nothing.
+    /// A sample call, in which neither loop of the original fails.
     pub fn run<K: Kernel>(
         &mut self,
         kernel: &K,
@@ -83,34 +82,45 @@ impl Receiver {
         strobes: &mut [f32],
         output: &mut [f32],
     ) -> Answer {
+        let ran = self.try_run(kernel, input, strobes, output);
+        ran.expect("no complex run is refused, and the counts are equal")
+    }
+
+    /// "Timing into a strobe buffer, then the carrier over the strobes produced, into the output." In a
+    /// run number 8 comes before 7; a refused one changes nothing.
+    pub fn try_run<K: Kernel>(
+        &mut self,
+        kernel: &K,
+        input: &[f32],
+        strobes: &mut [f32],
+        output: &mut [f32],
+    ) -> Result<Answer, Error> {
         let lengths = [input.len(), strobes.len(), output.len()];
         if lengths.iter().any(|length| length % 2 == 1) {
-            return refused(8);
+            return Ok(refused(8));
         }
         if strobes.len() != output.len() {
-            return refused(7);
+            return Ok(refused(7));
         }
         let mut found: Vec<C32> = samples(strobes);
-        let Progress { consumed, produced } = kernel
-            .symbol_sync(&mut self.timing, &samples(input), &mut found)
-            .expect("no complex run is refused");
+        let Progress { consumed, produced } =
+            kernel.symbol_sync(&mut self.timing, &samples(input), &mut found)?;
         strobes.copy_from_slice(&flat(&found));
         let mut carried: Vec<C32> = fresh_output(produced);
-        kernel
-            .costas(&mut self.carrier, &found[..produced], &mut carried)
-            .expect("the counts are equal");
+        kernel.costas(&mut self.carrier, &found[..produced], &mut carried)?;
         output[..2 * produced].copy_from_slice(&flat(&carried));
         let symbols = u32::try_from(produced).expect("a buffer's count");
         self.count = self.count.saturating_add(symbols);
-        Answer {
+        Ok(Answer {
             number: 0,
             consumed,
             produced,
-        }
+        })
     }
 }
 
-fn refused(number: u64) -> Answer {
+/// The answer of a call that is refused.
+pub fn refused(number: u64) -> Answer {
     Answer {
         number,
         consumed: 0,

@@ -1,79 +1,103 @@
-//! The carrier loop: set-up and one call, under each constellation.
+//! The carrier loop, under each constellation.
 
 use std::f64::consts::FRAC_1_SQRT_2;
 use std::hint::black_box;
+use std::rc::Rc;
 
-use super::{Table, recording};
+use train_receiver::ffi::{self, Progress};
+
+use super::drive::{Loop, round};
+use super::recording;
+use super::table::Table;
 use crate::Fallback;
-use crate::carrier_runs::{CONSTELLATIONS, signal_of};
-use crate::fields::constellation_code;
+use crate::carrier_runs::{Values, signal_of};
+use crate::fields::state_line;
 use crate::kernels::costas::{Costas, CostasConstellation, CostasState};
+use crate::scale::records;
 use crate::types::C32;
 
-/// The set-up: bandwidth, damping and offset.
-const SET_UP: [f64; 3] = [0.02, FRAC_1_SQRT_2, 0.05];
 /// The signal's carrier: the turns that it begins at, and what it grows by at each symbol.
-const CARRIER: [f64; 2] = [0.03, 0.001];
+pub const CARRIER: [f64; 2] = [0.03, 0.001];
+/// The constellations, and their names.
+pub const CONSTELLATIONS: [(CostasConstellation, &str); 3] = [
+    (CostasConstellation::Bpsk, "BPSK"),
+    (CostasConstellation::Qpsk, "QPSK"),
+    (CostasConstellation::Psk8, "8-PSK"),
+];
 
-// From `crates/carrier_once`. A slice is a pointer and a count. The answer is document 01's number.
-unsafe extern "C" {
-    fn recover_carrier(
-        constellation: u32,
-        loop_bw: f64,
-        damping: f64,
-        max_offset: f64,
-        input: *const f32,
-        input_count: usize,
-        output: *mut f32,
-        output_count: usize,
-    ) -> u32;
+/// The values of the set-up.
+pub fn values(points: CostasConstellation) -> Values {
+    black_box(Values {
+        points,
+        bandwidth: 0.02,
+        damping: FRAC_1_SQRT_2,
+        offset: 0.05,
+    })
 }
 
-pub fn rows(table: &mut Table) {
-    for points in CONSTELLATIONS {
-        row(table, points);
+/// The original's state after the set-up.
+pub fn original(points: CostasConstellation) -> CostasState {
+    values(points).set_up().expect("values in range")
+}
+
+/// A call consumes every sample and writes as many.
+fn all(samples: usize) -> Progress {
+    Progress {
+        consumed: samples,
+        produced: samples,
     }
 }
 
-/// A signal of the constellation, on a carrier.
-fn row(table: &mut Table, points: CostasConstellation) {
+impl Loop for CostasState {
+    type Sample = C32;
+
+    fn call(&mut self, input: &[C32], output: &mut [C32]) -> Progress {
+        let done = Fallback.costas(self, input, output);
+        done.expect("as many places as samples");
+        all(input.len())
+    }
+
+    fn state(&self) -> String {
+        state_line(self)
+    }
+}
+
+impl Loop for ffi::Carrier {
+    type Sample = C32;
+
+    fn call(&mut self, input: &[C32], output: &mut [C32]) -> Progress {
+        let (from, to) = (input.as_ptr().cast(), output.as_mut_ptr().cast());
+        let (given, places) = (2 * input.len(), 2 * output.len());
+        // SAFETY: each pointer is a slice's and each count that of its parts, which are f32; the record
+        // is a set-up's.
+        let number = unsafe { ffi::trr_carrier_run(self, from, given, to, places) };
+        assert_eq!(number, 0, "as many places as samples");
+        all(input.len())
+    }
+
+    fn state(&self) -> String {
+        state_line(&records::carrier(self))
+    }
+}
+
+fn ported(points: CostasConstellation) -> ffi::Carrier {
+    let values = records::carrier_values(&values(points));
+    let code = records::constellation(points, 0);
+    // SAFETY: any values may be given.
+    let made = unsafe { ffi::trr_carrier_set_up(code, values) };
+    assert_eq!(made.number, 0, "values in range");
+    made.state
+}
+
+/// Each constellation: a noisy signal of it on a carrier.
+pub fn rows(table: &mut Table) {
     let [turn, turn_step] = CARRIER;
-    let signal = signal_of(points).carried(turn, turn_step);
-    let input: Vec<C32> = recording(signal, table.samples);
-    table.row(
-        ["carrier", &format!("{points:?}")],
-        input.len(),
-        |output| original(points, &input, output),
-        |output| ported(points, &input, output),
-    );
-}
-
-/// Set-up and one run of the original.
-fn original(points: CostasConstellation, input: &[C32], output: &mut [C32]) -> usize {
-    let [bandwidth, damping, offset] = black_box(SET_UP);
-    let made = CostasState::new(black_box(points), bandwidth, damping, offset);
-    let mut state = made.expect("a set-up in range");
-    let done = Fallback.costas(&mut state, input, output);
-    done.expect("as many places as samples");
-    output.len()
-}
-
-/// Set-up and one run of the ported loop.
-fn ported(points: CostasConstellation, input: &[C32], output: &mut [C32]) -> usize {
-    let [bandwidth, damping, offset] = SET_UP;
-    // SAFETY: each pointer is a slice's and each count the count of its parts, which are f32.
-    let number = unsafe {
-        recover_carrier(
-            u32::from(constellation_code(points)),
-            bandwidth,
-            damping,
-            offset,
-            input.as_ptr().cast(),
-            input.len() * 2,
-            output.as_mut_ptr().cast(),
-            output.len() * 2,
-        )
-    };
-    assert_eq!(number, 0, "a set-up in range, as many places as samples");
-    output.len()
+    for (points, name) in CONSTELLATIONS {
+        let signal = signal_of(points).carried(turn, turn_step);
+        let samples: Rc<[C32]> = recording(signal, table.samples).into();
+        table.row(format!("carrier, {name}"), |block| {
+            let input = Rc::clone(&samples);
+            Box::new(move || round(&input, block, original(points), ported(points)))
+        });
+    }
 }

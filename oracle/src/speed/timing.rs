@@ -1,114 +1,143 @@
-//! The timing loops: set-up and one call, on real and on complex samples.
+//! The timing loops, on real and on complex samples.
 
 use std::f64::consts::FRAC_1_SQRT_2;
 use std::hint::black_box;
+use std::rc::Rc;
 
-use super::{Table, recording};
+use train_receiver::ffi::{self, Progress};
+
+use super::drive::{Loop, round};
+use super::recording;
+use super::table::Table;
 use crate::Fallback;
 use crate::bits::Parts;
+use crate::fields::state_line;
 use crate::kernels::symbol_sync::{SymbolSync, SymbolSyncState, Ted};
+use crate::runs::Values;
+use crate::scale::records;
 use crate::signal::Signal;
+use crate::timing;
 use crate::types::C32;
 
-/// The set-up: samples per symbol, bandwidth, damping, deviation and gain.
-const SET_UP: [f64; 5] = [4.1, 0.01, FRAC_1_SQRT_2, 0.005, 1.0];
+/// Samples per symbol.
+pub const PACE: f64 = 4.1;
+/// The two detectors, and their names.
+pub const DETECTORS: [(Ted, &str); 2] = [
+    (Ted::Gardner, "Gardner"),
+    (Ted::MuellerMuller, "Mueller-Müller"),
+];
 
-/// Functions of `crates/timing_once` that have the same arguments, and their type.
-macro_rules! exported {
-    ($type:ident: $($name:ident)+, $arguments:tt -> $answer:ty) => {
-        type $type = unsafe extern "C" fn $arguments -> $answer;
-        unsafe extern "C" {
-            $(fn $name $arguments -> $answer;)+
-        }
-    };
+/// The values of the set-up.
+pub fn values(detector: Ted) -> Values {
+    black_box(Values {
+        sps: PACE,
+        detector,
+        bandwidth: 0.01,
+        damping: FRAC_1_SQRT_2,
+        deviation: 0.005,
+        gain: 1.0,
+    })
 }
 
-// Detector 0 is Gardner. A slice is a pointer and a count. The answer counts the strobes.
-exported! {
-    Recover: recover_real recover_complex, (
-        sps: f64,
-        ted: u32,
-        loop_bw: f64,
-        damping: f64,
-        max_deviation: f64,
-        ted_gain: f64,
-        input: *const f32,
-        input_count: usize,
-        output: *mut f32,
-        output_count: usize,
-    ) -> usize
+/// The original's state after the set-up.
+pub fn original<T: Parts>(detector: Ted) -> SymbolSyncState<T> {
+    values(detector).set_up().expect("values in range")
 }
 
-/// A sample type, and what is run on it.
-trait Timed: Parts {
-    const NAME: &str;
-    /// The points of the signal.
-    const POINTS: usize;
-    const PORTED: Recover;
+/// The original's counts.
+pub fn counts(progress: timing::Progress) -> Progress {
+    let timing::Progress { consumed, produced } = progress;
+    Progress { consumed, produced }
 }
 
-impl Timed for f32 {
-    const NAME: &str = "real timing";
-    const POINTS: usize = 2;
-    const PORTED: Recover = recover_real;
-}
+impl<T: Parts> Loop for SymbolSyncState<T>
+where
+    Fallback: SymbolSync<T>,
+{
+    type Sample = T;
 
-impl Timed for C32 {
-    const NAME: &str = "complex timing";
-    const POINTS: usize = 4;
-    const PORTED: Recover = recover_complex;
-}
+    fn call(&mut self, input: &[T], output: &mut [T]) -> Progress {
+        let done = Fallback.symbol_sync(self, input, output);
+        counts(done.expect("no internal error"))
+    }
 
-/// Both kinds of samples, with both detectors.
-pub fn rows(table: &mut Table) {
-    for ted in [Ted::Gardner, Ted::MuellerMuller] {
-        row::<f32>(table, ted);
-        row::<C32>(table, ted);
+    fn state(&self) -> String {
+        state_line(self)
     }
 }
 
-/// A noisy signal at the pace of the set-up, with places for every strobe.
-fn row<T: Timed>(table: &mut Table, ted: Ted)
-where
-    Fallback: SymbolSync<T>,
-{
-    let input: Vec<T> = recording(Signal::ordinary(T::POINTS, SET_UP[0]), table.samples);
-    table.row(
-        [T::NAME, &format!("{ted:?}")],
-        input.len() / 2,
-        |output| original(ted, &input, output),
-        |output| ported(ted, &input, output),
-    );
+impl Loop for ffi::Timing<f32> {
+    type Sample = f32;
+
+    fn call(&mut self, input: &[f32], output: &mut [f32]) -> Progress {
+        let (from, to) = (input.as_ptr(), output.as_mut_ptr());
+        // SAFETY: each pointer and count is a slice's, and the record is a set-up's.
+        unsafe { ffi::trr_real_run(self, from, input.len(), to, output.len()) }
+    }
+
+    fn state(&self) -> String {
+        state_line(&records::timing(self))
+    }
 }
 
-/// Set-up and one run of the original.
-fn original<T: Timed>(ted: Ted, input: &[T], output: &mut [T]) -> usize
-where
-    Fallback: SymbolSync<T>,
-{
-    let [sps, bandwidth, damping, deviation, gain] = black_box(SET_UP);
-    let made = SymbolSyncState::new(sps, black_box(ted), bandwidth, damping, deviation, gain);
-    let mut state = made.expect("a set-up in range");
-    let done = Fallback.symbol_sync(&mut state, input, output);
-    done.expect("no internal error").produced
+impl Loop for ffi::Timing<ffi::C32> {
+    type Sample = C32;
+
+    fn call(&mut self, input: &[C32], output: &mut [C32]) -> Progress {
+        let (from, to) = (input.as_ptr().cast(), output.as_mut_ptr().cast());
+        let (given, places) = (2 * input.len(), 2 * output.len());
+        // SAFETY: each pointer is a slice's and each count that of its parts, which are f32; the record
+        // is a set-up's.
+        let done = unsafe { ffi::trr_complex_run(self, from, given, to, places) };
+        accepted(done)
+    }
+
+    fn state(&self) -> String {
+        state_line(&records::timing(self))
+    }
 }
 
-/// Set-up and one run of the ported loop.
-fn ported<T: Timed>(ted: Ted, input: &[T], output: &mut [T]) -> usize {
-    let [sps, bandwidth, damping, deviation, gain] = SET_UP;
-    // SAFETY: each pointer is a slice's and each count the count of its parts, which are f32.
-    unsafe {
-        T::PORTED(
-            sps,
-            u32::from(ted != Ted::Gardner),
-            bandwidth,
-            damping,
-            deviation,
-            gain,
-            input.as_ptr().cast(),
-            input.len() * T::COUNT,
-            output.as_mut_ptr().cast(),
-            output.len() * T::COUNT,
-        )
+/// The counts of a call that is not refused.
+pub fn accepted(counts: ffi::Counts) -> Progress {
+    assert_eq!(counts.number, 0, "buffers that fit");
+    Progress {
+        consumed: counts.consumed,
+        produced: counts.produced,
+    }
+}
+
+/// The state that a set-up of the library gives.
+fn made<T>(set_up: ffi::TimingSetUp<T>) -> ffi::Timing<T> {
+    assert_eq!(set_up.number, 0, "values in range");
+    set_up.state
+}
+
+fn real(detector: Ted) -> ffi::Timing<f32> {
+    let values = records::timing_values(&values(detector), 0);
+    // SAFETY: any values may be given.
+    made(unsafe { ffi::trr_real_set_up(values) })
+}
+
+fn complex(detector: Ted) -> ffi::Timing<ffi::C32> {
+    let values = records::timing_values(&values(detector), 0);
+    // SAFETY: any values may be given.
+    made(unsafe { ffi::trr_complex_set_up(values) })
+}
+
+/// Both kinds of samples, with both detectors: a noisy signal at the pace of the set-up.
+pub fn rows(table: &mut Table) {
+    let singles: Rc<[f32]> = recording(Signal::ordinary(2, PACE), table.samples).into();
+    let pairs: Rc<[C32]> = recording(Signal::ordinary(4, PACE), table.samples).into();
+    for (ted, name) in DETECTORS {
+        table.row(format!("real timing, {name}"), |block| {
+            let input = Rc::clone(&singles);
+            Box::new(move || round(&input, block, original(ted), real(ted)))
+        });
+    }
+    for (ted, name) in DETECTORS {
+        table.row(format!("complex timing, {name}"), |block| {
+            let input = Rc::clone(&pairs);
+            Box::new(move || round(&input, block, original(ted), complex(ted)))
+        });
     }
 }
