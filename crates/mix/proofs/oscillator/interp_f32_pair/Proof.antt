@@ -1,21 +1,34 @@
 -- `mix::oscillator::interp_f32_pair` meets its contract: the indices lie inside the table, and the fraction is the definition's. Assumes nothing.
-use mathlib.Core.Path.{ap}
-use Prim.Native.Nat.{_/_, _^_}
-use lib.Ieee.{Float, ofBits, ofInt}
+use mathlib.Core.Path.{_≡_, ap, _∙_}
+use mathlib.Core.List.{List}
+use Prim.Native.Nat.{ℕ, _+_, _*_, _/_, _%_, _^_}
+use native.Mathlib.Omega.{arith}
+use lib.Ieee.{Float, binary32, sub, ofBits}
 use borrow.Author.Needs.{needs}
+use Rattle.ieee.proofs.Nan.{not-above}
 use Rattle.mix.specs.Oscillator.{between, quarterBefore}
-use Rattle.mix.proofs.Laws.Fraction.{fraction-is, rest-float}
+use Rattle.mix.specs.declared.oscillator.Pair.{Pair}
+use Rattle.mix.proofs.Laws.Fraction.{fraction-is}
 use Rattle.mix.proofs.oscillator.interp_f32_pair.Statement.{statement}
 use Rattle.mix.proofs.oscillator.interp_f32_pair.Tie as tie
 
 cast-idx : tie.Need-cast-idx
 cast-idx c = search needs
 
-add-sidx : tie.Need-add-sidx
-add-sidx c = search needs
+wrapping-add-u32-requires : tie.Need-wrapping-add-u32-requires
+wrapping-add-u32-requires c κs = search needs
 
-int-to-float-f : tie.Need-int-to-float-f
-int-to-float-f c = search (needs, rest-float)
+cast-sidx : tie.Need-cast-sidx
+cast-sidx c = search needs
+
+mul-f : tie.Need-mul-f
+mul-f c = search needs
+
+add-f : tie.Need-add-f
+add-f c = search needs
+
+float-from-bits-f : tie.Need-float-from-bits-f
+float-from-bits-f c = not-above binary32 _ (omega arith)
 
 mul-a : tie.Need-mul-a
 mul-a c = search needs
@@ -48,19 +61,28 @@ element-copy-out-sb : tie.Need-element-copy-out-sb
 element-copy-out-sb c = search needs
 
 returns : tie.Need-returns
-unfolding ofBits ofInt
 returns c =
     let args = c .before .before .before .before .before .args in
+    let table = args .table .now in
     let idx = args .p / 2 ^ 20 in
-    ap (λ (f : Float). record { c = between (args .table .now) idx f; s = between (args .table .now) (quarterBefore idx) f }) (fraction-is (args .p))
+    let after = c .before .before .before .before .wrapping-add-u32 in
+    let sidx : after .result / 2 ^ 20 ≡ quarterBefore idx = omega (arith, after .ensures) in
+    let f = sub binary32 (ofBits binary32 (args .p % 2 ^ 20 * 8 + 1065353216)) (ofBits binary32 1065353216) in
+    ap (λ (j : ℕ). pair table idx j f) sidx ∙ ap (pair table idx (quarterBefore idx)) (fraction-is (args .p))
+  where
+    pair : List Float → ℕ → ℕ → Float → Pair
+    pair table i j f = record { c = between table i f; s = between table j f }
 
 pub interp-f32-pair-spec : {M : Type 1} → statement M
 interp-f32-pair-spec =
     tie.close
     (tie.spec
     cast-idx
-    add-sidx
-    int-to-float-f
+    wrapping-add-u32-requires
+    cast-sidx
+    mul-f
+    add-f
+    float-from-bits-f
     mul-a
     element-copy-out-a
     add-b
