@@ -1,5 +1,5 @@
 -- The records of both timing loops stand for their states faithfully. Assumes nothing.
-use mathlib.Core.Path.{_≡_, ap, sym, subst}
+use mathlib.Core.Path.{_≡_, refl, ap, sym, _∙_, subst}
 use Rattle.timing.specs.declared.params.Ted.{Ted}
 use Rattle.timing.specs.declared.params.Params.{Params}
 use Rattle.timing.specs.Run.{Sync}
@@ -7,6 +7,7 @@ use Rattle.timing.specs.Run as run
 use Rattle.train_receiver.specs.declared.params.TimingParams.{TimingParams}
 use Rattle.train_receiver.specs.Faithful.{Faithful}
 use Rattle.train_receiver.specs.Timing.{paramsOf, paramsRecord}
+use Rattle.train_receiver.specs.Timing as timing
 use Rattle.train_receiver.specs.RealTiming as real
 use Rattle.train_receiver.specs.ComplexTiming as complex
 use Rattle.train_receiver.proofs.Laws.Codes.{detector-back, detector-below, detector-code-back}
@@ -31,18 +32,25 @@ abbrev pub withParams : {A : Type 0} → Sync A → Params → Sync A
 withParams s p = record { params = p; hist = s .hist; track = s .track }
 
 -- ---- the states
+-- over the sample type and its record: what `build` makes of parameters and a state has those parameters and stands for that state
+module _ {A R : Type 0} (params : R → TimingParams) (syncOf : R → Sync A) (build : TimingParams → Sync A → R) where
+  abbrev recordOf : Sync A → R
+  recordOf s = build (paramsRecord (s .params)) s
+
+  timing-faithful : ((p : TimingParams) (s : Sync A) → params (build p s) ≡ p) → ((p : TimingParams) (s : Sync A) → syncOf (build p s) ≡ withParams s (paramsOf p)) → ((x : R) → paramsRecord (syncOf x .params) ≡ params x → build (paramsRecord (syncOf x .params)) (syncOf x) ≡ x) → ((x : R) → syncOf x .params ≡ paramsOf (params x))
+      → Faithful syncOf recordOf run.Given (λ x. timing.Given (syncOf x) (params x))
+  timing-faithful has stands built whose = record {
+    state-back = back;
+    record-back = λ x g. built x (ap paramsRecord (whose x) ∙ params-record-back (params x) (g .detector));
+    given-out = λ s g. record { state = subst run.Given (sym (back s)) g; detector = subst (λ (p : TimingParams). p .ted < 2) (sym (has (paramsRecord (s .params)) s)) (detector-below (s .params .ted)) };
+    given-in = λ x g. g .state;
+  }
+    where
+      back : (s : Sync A) → syncOf (recordOf s) ≡ s
+      back s = stands (paramsRecord (s .params)) s ∙ ap (withParams s) (params-back (s .params))
+
 pub real-faithful : Faithful real.syncOf real.recordOf run.Given real.Given
-real-faithful = record {
-  state-back = λ s. ap (withParams s) (params-back (s .params));
-  record-back = λ x g. ap (λ (p : TimingParams). record { params = p; hist = x .hist; track = x .track }) (params-record-back (x .params) (g .detector));
-  given-out = λ s g. record { state = subst run.Given (sym (ap (withParams s) (params-back (s .params)))) g; detector = detector-below (s .params .ted) };
-  given-in = λ x g. g .state;
-}
+real-faithful = timing-faithful (λ x. x .params) real.syncOf (λ p s. record { params = p; hist = real.recordOf s .hist; track = real.recordOf s .track }) (λ p s. refl) (λ p s. refl) (λ x e. λ j. record { params = e j; hist = x .hist; track = x .track }) (λ x. refl)
 
 pub complex-faithful : Faithful complex.syncOf complex.recordOf run.Given complex.Given
-complex-faithful = record {
-  state-back = λ s. ap (withParams s) (params-back (s .params));
-  record-back = λ x g. ap (λ (p : TimingParams). record { params = p; hist = x .hist; track = x .track }) (params-record-back (x .params) (g .detector));
-  given-out = λ s g. record { state = subst run.Given (sym (ap (withParams s) (params-back (s .params)))) g; detector = detector-below (s .params .ted) };
-  given-in = λ x g. g .state;
-}
+complex-faithful = timing-faithful (λ x. x .params) complex.syncOf (λ p s. record { params = p; hist = complex.recordOf s .hist; track = complex.recordOf s .track }) (λ p s. refl) (λ p s. refl) (λ x e. λ j. record { params = e j; hist = x .hist; track = x .track }) (λ x. refl)

@@ -1,7 +1,6 @@
 -- `carrier::detector4` meets its contract: on either path both products are those of the definition. Assumes nothing.
-use mathlib.Core.Path.{_≡_, sym, ap, _∙_}
-use mathlib.Core.Bool.{true}
-use lib.Ieee.{Float, binary32, ofBits, sub, lt}
+use mathlib.Core.Path.{sym, ap, _∙_}
+use lib.Ieee.{binary32, ofBits, sub, lt}
 use Rattle.ieee.specs.Constants.{zero₀}
 use borrow.Author.Needs.{needs}
 use Rattle.carrier.proofs.detection.detector4.Statement.{statement}
