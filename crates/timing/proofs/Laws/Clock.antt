@@ -40,8 +40,8 @@ unfolding midway
 behind {p} {c} t s = let b = beat t s in record { is = mid-finite (c .mu) (c .omega) b; not-on = mid-back (c .mu) (c .omega) b; near = mid-near (c .mu) (c .omega) b }
 
 -- the place does not matter
-kept : {p : Params} {c : Clock} (k : ℕ) → Steady p c → Steady p (clockBack c k)
-kept k s = record { mu-fits = s .mu-fits; mu-low = s .mu-low; mu-high = s .mu-high; omega-fits = s .omega-fits; omega-low = s .omega-low; omega-high = s .omega-high; integ-low = s .integ-low; integ-high = s .integ-high }
+pub kept : {p : Params} {c : Clock} (i : ℕ) → Steady p c → Steady p (record { i = i; mu = c .mu; omega = c .omega; integ = c .integ })
+kept i s = record { mu-fits = s .mu-fits; mu-low = s .mu-low; mu-high = s .mu-high; omega-fits = s .omega-fits; omega-low = s .omega-low; omega-high = s .omega-high; integ-low = s .integ-low; integ-high = s .integ-high }
 
 -- ---- n samples of input are ahead
 -- the clock can take any finite error

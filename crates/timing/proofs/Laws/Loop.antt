@@ -22,7 +22,7 @@ abbrev pub TrackRunning : {A : Type 0} → Params → ℕ → Track A → Type 0
 TrackRunning p n s = Running p (s .clock) (lacks p s) n
 
 -- a middle that is held is not lacking
-held : (d : Ted) (started : Bool) → lacking d started true ≡ false
+pub held : (d : Ted) (started : Bool) → lacking d started true ≡ false
 unfolding lacking
 held Gardner true = refl
 held Gardner false = refl

@@ -33,15 +33,15 @@ module _ {A : Type 0} (o : Ops A) (s : Sync A) (xs : List A) (places : ℕ) wher
       let u = runs o p (line (s .hist) xs) places (s .track) .last in
       running-back p (u .clock) (lacks p u) (length xs) (runs-running o p (line (s .hist) xs) (length xs) long places (s .track) (running-more p (s .track .clock) (lacks p (s .track)) (length xs) g))
 
-  ran-produced : length (ran o s xs places .values) ≤ places
+  pub ran-produced : length (ran o s xs places .values) ≤ places
   unfolding ran
   ran-produced = runs-count o (s .params) (line (s .hist) xs) places (s .track)
 
-  ran-consumed : ran o s xs places .taken ≤ length xs
+  pub ran-consumed : ran o s xs places .taken ≤ length xs
   unfolding ran consumed
   ran-consumed = omega arith
 
-  ran-all : length (ran o s xs places .values) < places → ran o s xs places .taken ≡ length xs
+  pub ran-all : length (ran o s xs places .values) < places → ran o s xs places .taken ≡ length xs
   unfolding ran consumed
   ran-all h = let k = runs-stuck o (s .params) (line (s .hist) xs) (length xs) long places (s .track) h in omega arith
 

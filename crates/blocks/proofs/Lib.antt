@@ -1,0 +1,5 @@
+pub mod Longer
+pub mod Shifted
+pub mod Instants
+pub mod Timing
+pub mod TimingCalls

@@ -1,0 +1,4 @@
+pub mod Instants
+pub mod Timing
+pub mod Carrier
+pub mod Receiver
