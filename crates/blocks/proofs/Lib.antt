@@ -3,3 +3,5 @@ pub mod Shifted
 pub mod Instants
 pub mod Timing
 pub mod TimingCalls
+pub mod Carrier
+pub mod Received

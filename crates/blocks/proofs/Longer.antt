@@ -20,6 +20,11 @@ use Rattle.timing.specs.Loop.{Track, Strobes, lacks, there, valueAt, withMid, m
 use Rattle.timing.proofs.Laws.Loop.{held, valueHere}
 use Rattle.blocks.specs.Instants.{clocks}
 
+-- what a test of two says
+pub both-tests : (a b : Bool) → (not a && b) ≡ true → (a ≡ false) × (b ≡ true)
+both-tests false b h = (refl, h)
+both-tests true b h = absurd (yes h)
+
 -- ---- the middle, taken or left by two tests
 module _ {A : Type 0} (o : Ops A) (p : Params) where
   abbrev pub middle : List A → Track A → Track A
@@ -72,20 +77,12 @@ module _ {A : Type 0} (o : Ops A) (p : Params) (l ys : List A) where
       go true false h k = ap (midTaken o p (l ++ ys)) (mid-by o p l s h k)
       go false b h k = ap (midTaken o p (l ++ ys)) (mid-by o p l s h k)
 
-  -- a strobe that is ready among the samples so far is the one that is ready among more
-  ready-longer : (t : Track A) → ready p l t ≡ true → (lacks p t ≡ false) × (there l (t .clock .i) ≡ true)
-  ready-longer t h = both (lacks p t) (there l (t .clock .i)) h
-    where
-      both : (a b : Bool) → (not a && b) ≡ true → (a ≡ false) × (b ≡ true)
-      both false b h = (refl, h)
-      both true b h = absurd (yes h)
-
-  -- it is taken first
+  -- ---- a strobe that is ready among the samples so far is the one that is ready among more
   strobe-first : (s : Track A) (m : ℕ) → let t = midTaken o p l s in let y = valueHere o l t in let u = midTaken o p (l ++ ys) s in ready p l t ≡ true
       → (turn o p (l ++ ys) m u ≡ more y (runs o p (l ++ ys) m (strobed o p t y))) × (turnClocks o p (l ++ ys) m u ≡ t .clock ∷ clocks o p (l ++ ys) m (strobed o p t y))
   strobe-first s m e =
       let t = midTaken o p l s in
-      let r = ready-longer t e in
+      let r = both-tests (lacks p t) (there l (t .clock .i)) e in
       let taken = sym (mid-longer s) ∙ not-again o p (l ++ ys) t (r .0) in
       let near = there-longer (t .clock .i) (r .1) in
       let value = value-longer (t .clock .i) (t .clock .mu) (r .1) in

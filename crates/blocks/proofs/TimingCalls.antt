@@ -22,7 +22,7 @@ use Rattle.blocks.proofs.Timing.{ran-together}
 
 -- ---- what two runs store in the places of a slice
 module _ {A : Type 0} (m : Form A) where
-  slice-append : (vs ws : List A) → m .slice (vs ++ ws) ≡ m .slice vs ++ m .slice ws
+  pub slice-append : (vs ws : List A) → m .slice (vs ++ ws) ≡ m .slice vs ++ m .slice ws
   slice-append [] ws = ap (λ (l : List Float). l ++ m .slice ws) (sym (m .none))
   slice-append (v ∷ vs) ws =
       m .some v (vs ++ ws)
@@ -77,7 +77,7 @@ pub rest-samples : (k : ℕ) (xs ys : List Float) → length xs % 2 ≡ 0 → sa
 rest-samples k xs ys even = samples-append (drop (2 * k) xs) ys (omega (arith, length-drop (2 * k) xs)) ∙ ap (λ (l : List C32). l ++ samples ys) (samples-drop k xs)
 
 -- which counts are even where no buffer is odd
-neither-odd : (a b : ℕ) → (eqb (a % 2) 1 || eqb (b % 2) 1) ≡ false → (a % 2 ≡ 0) × (b % 2 ≡ 0)
+pub neither-odd : (a b : ℕ) → (eqb (a % 2) 1 || eqb (b % 2) 1) ≡ false → (a % 2 ≡ 0) × (b % 2 ≡ 0)
 neither-odd a b = go (eqb (a % 2) 1) (eqb (b % 2) 1) (eqb-false (a % 2) 1) (eqb-false (b % 2) 1)
   where
     even : (x : ℕ) → (x % 2 ≡ 1 → ⊥) → x % 2 ≡ 0
@@ -88,7 +88,7 @@ neither-odd a b = go (eqb (a % 2) 1) (eqb (b % 2) 1) (eqb-false (a % 2) 1) (eqb-
     go false true h k e = absurd (subst T e tt)
     go true q h k e = absurd (subst T e tt)
 
-even-not-odd : (n : ℕ) → n % 2 ≡ 0 → n % 2 ≡ 1 → ⊥
+pub even-not-odd : (n : ℕ) → n % 2 ≡ 0 → n % 2 ≡ 1 → ⊥
 even-not-odd n h k = absurd (omega arith)
 
 module _ (s : Sync C32) (given : Given s) (xs ys zs : List Float) where

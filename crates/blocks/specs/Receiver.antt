@@ -35,9 +35,37 @@ callOn w c = called (w .receiver) (handed w c) (c .strobes) (c .output)
 abbrev pub waitsAfter : Waiting → Call → Waiting
 waitsAfter w c = let o = callOn w c in record { receiver = o .receiver; rest = drop (2 * o .consumed) (handed w c) }
 
--- the instants of its symbols, counted from the first sample that it was handed
+-- ---- what is heard
+-- the strobes and the outputs, one after the other; the instants of the symbols, counted from the first sample; the two counts; and the record after it, with its symbol count
+pub record Heard : Type 0 where
+  pub strobes : List C32
+  pub outputs : List C32
+  pub instants : List Instant
+  pub consumed : ℕ
+  pub produced : ℕ
+  pub receiver : Receiver
+
+-- in a call
 abbrev pub instantsOn : Waiting → Call → List Instant
 instantsOn w c = cond (accepts (handed w c) (c .strobes) (c .output)) (instants complex (sync (w .receiver .timing)) (samples (handed w c)) (length (c .strobes) / 2)) []
+
+abbrev pub heardOn : Waiting → Call → Heard
+heardOn w c = let o = callOn w c in record { strobes = strobesOf o; outputs = outputsOf o; instants = instantsOn w c; consumed = o .consumed; produced = o .produced; receiver = o .receiver }
+
+-- first q and then h, whose instants are counted from the first sample that q did not consume
+abbrev pub joined : Heard → Heard → Heard
+joined q h = record {
+  strobes = q .strobes ++ h .strobes;
+  outputs = q .outputs ++ h .outputs;
+  instants = q .instants ++ map (later (q .consumed)) (h .instants);
+  consumed = q .consumed + h .consumed;
+  produced = q .produced + h .produced;
+  receiver = h .receiver;
+}
+
+-- before any call
+abbrev pub silent : Receiver → Heard
+silent r = record { strobes = []; outputs = []; instants = []; consumed = 0; produced = 0; receiver = r }
 
 -- ---- a list of calls
 -- the recording: the blocks one after the other
@@ -55,25 +83,7 @@ unfoldable pub TakesAll : Waiting → List Call → Type 0
 TakesAll w [] = T true
 TakesAll w (c ∷ cs) = (2 * callOn w c .consumed ≡ length (handed w c)) × TakesAll (waitsAfter w c) cs
 
--- what the calls give together: the strobes and the outputs, one after the other; the symbols' instants, counted from the first sample of the recording; the sums of the two counts; and the final record, with its symbol count
-pub record Heard : Type 0 where
-  pub strobes : List C32
-  pub outputs : List C32
-  pub instants : List Instant
-  pub consumed : ℕ
-  pub produced : ℕ
-  pub receiver : Receiver
-
+-- what the calls give together
 unfoldable pub heard : Waiting → List Call → Heard
-heard w [] = record { strobes = []; outputs = []; instants = []; consumed = 0; produced = 0; receiver = w .receiver }
-heard w (c ∷ cs) =
-    let o = callOn w c in
-    let h = heard (waitsAfter w c) cs in
-    record {
-      strobes = strobesOf o ++ h .strobes;
-      outputs = outputsOf o ++ h .outputs;
-      instants = instantsOn w c ++ map (later (o .consumed)) (h .instants);
-      consumed = o .consumed + h .consumed;
-      produced = o .produced + h .produced;
-      receiver = h .receiver;
-    }
+heard w [] = silent (w .receiver)
+heard w (c ∷ cs) = joined (heardOn w c) (heard (waitsAfter w c) cs)

@@ -26,7 +26,7 @@ unfolding held
 held-top count n h = ap (λ (b : Bool). cond b top (count + n)) (lt-ltb top (count + n) h)
 
 -- no symbol more
-held-none : (count : ℕ) → count < 2 ^ 32 → held count 0 ≡ count
+pub held-none : (count : ℕ) → count < 2 ^ 32 → held count 0 ≡ count
 held-none count h = let z : count + 0 ≡ count = omega arith in held-sum count 0 (omega arith) ∙ z
 
 -- it is the sum or the top, whichever is less
@@ -38,7 +38,7 @@ held-is count n h low high = go (ltb top (count + n)) refl
     go false e = let l = ltb-false top (count + n) e in held-sum count n l ∙ sym (low l)
 
 -- some more, and then others
-held-twice : (count a b : ℕ) → held (held count a) b ≡ held count (a + b)
+pub held-twice : (count a b : ℕ) → held (held count a) b ≡ held count (a + b)
 held-twice count a b = sym (held-is count (a + b) (held (held count a) b) within beyond)
   where
     within : count + (a + b) ≤ top → held (held count a) b ≡ count + (a + b)
