@@ -5,3 +5,4 @@ pub mod Timing
 pub mod TimingCalls
 pub mod Carrier
 pub mod Received
+pub mod Recording

@@ -66,7 +66,7 @@ done-sparing r xs zs ys even equal =
     }
 
 -- neither of the first two buffers is odd where none is
-first-even : (a b : Bool) → (a || b) ≡ false → a ≡ false
+pub first-even : (a b : Bool) → (a || b) ≡ false → a ≡ false
 first-even true b e = e
 first-even false b e = refl
 
