@@ -6,3 +6,4 @@ pub mod TimingCalls
 pub mod Carrier
 pub mod Received
 pub mod Recording
+pub mod Onward

@@ -1,29 +1,30 @@
 -- One move of the clock: with a fraction mu from 0 up to 1, a spacing w from 1 to 1,050,000 and a push within ± w / 4, v = (mu + w) + push is at least w / 2 and at most 1,312,501.
--- So its whole part is at most that, and what is left over it lies in 0 up to but not 1. Every operation is rounded. Assumes nothing.
+-- So its whole part is at most that, and what is left over it lies in 0 up to but not 1; from a spacing of 3/2 on the whole part is 1 or more. Every operation is rounded. Assumes nothing.
 use mathlib.Core.Path.{_≡_, refl}
-use Prim.Native.Nat.{ℕ, _+_, _*_, _≤_, _<_}
+use Prim.Native.Nat.{ℕ, zero, suc, _+_, _*_, _≤_, _<_}
 use native.Mathlib.Nat.{zero-mul, zero-lt-suc, mul-le-mul-right, lt-of-mul-lt-mul-right, mul-pos}
 use native.Mathlib.Omega.{arith}
-use mathlib.Core.Bool.{false}
+use mathlib.Core.Bool.{Bool, true, false}
 use lib.IntN.{pos}
 use lib.Dec.{T}
 use lib.Ieee.{Float, fin, binary64, add, sub, mul, neg, le, lt, fits}
 use lib.Ieee.Fits.{add-fits}
 use lib.Ieee.Scale.{finite}
 use lib.Ieee.Positive.{den, den-pos}
-use Rattle.ieee.specs.Constants.{zero₀, half₀, one₀}
+use Rattle.ieee.specs.Constants.{zero₀, half₀, one₀, two₀}
 use Rattle.ieee.specs.Fraction.{plus, less}
+use Rattle.ieee.proofs.Test.{yes, no}
 use Rattle.ieee.proofs.Algebra.{mul-swap, sub-is}
-use Rattle.ieee.proofs.Order.{products, own-val, less-none, le→cross, cross→lt, le→vals, le-trans-float, lt→le, neg-finite, between}
+use Rattle.ieee.proofs.Order.{products, own-val, less-none, le→cross, cross→lt, le→vals, le-trans-float, lt→le, not-lt→le, finite-number, neg-finite, between}
 use Rattle.ieee.proofs.Rounds.{add-rounds}
 use Rattle.ieee.proofs.Held.{rounds-above}
-use Rattle.ieee.proofs.Mono.{add-mono, mul-mono-left, mul-nonneg}
+use Rattle.ieee.proofs.Mono.{add-mono, sub-mono, mul-mono-left, mul-nonneg}
 use Rattle.numbers.specs.Whole.{floored, floorPlus, floorLess}
-use Rattle.numbers.proofs.Laws.Whole.{floor-below}
+use Rattle.numbers.proofs.Laws.Whole.{floor-next, floor-below}
 use Rattle.numbers.proofs.Laws.Part.{floor-plain, part-nonneg, part-below-one}
 use Rattle.timing.specs.Clock.{quarter₀}
 use Rattle.timing.proofs.Laws.Half.{one-nonneg, one-up, half-is, half-left}
-use Rattle.timing.proofs.Laws.Pace.{widest₀}
+use Rattle.timing.proofs.Laws.Pace.{widest₀, threeHalves₀}
 
 -- a fraction and a spacing, as a steady clock has them
 pub record Beat (mu w : Float) : Type 0 where
@@ -57,6 +58,18 @@ top-push = refl
 top-move : add binary64 sum₀ push₀ ≡ farthest₀
 unfolding add
 top-move = refl
+
+quarter-of-two : mul binary64 two₀ quarter₀ ≡ half₀
+unfolding mul
+quarter-of-two = refl
+
+half-of-two : mul binary64 two₀ half₀ ≡ one₀
+unfolding mul
+half-of-two = refl
+
+less-half : sub binary64 threeHalves₀ half₀ ≡ one₀
+unfolding sub
+less-half = refl
 
 -- ---- the sum mu + w, and w / 4
 module _ (mu w : Float) (b : Beat mu w) where
@@ -111,10 +124,12 @@ module _ (mu w push : Float) (b : Beat mu w) (low : T (le (neg (mul binary64 w q
   move-high : T (le v farthest₀)
   move-high = rw (← top-move) (add-mono binary64 (sum mu w b) sum₀ push push₀ (sum-finite mu w b) tt push-finite tt (sum-high mu w b) (le-trans-float push (q mu w b) push₀ high (quarter-high mu w b)))
 
+  -- w - w / 4 ≤ v
+  move-rest : T (le (sub binary64 w (q mu w b)) v)
+  move-rest = rw (sub-is binary64 w (q mu w b)) (add-mono binary64 w (sum mu w b) (neg (q mu w b)) push (b .w-finite) (sum-finite mu w b) (neg-finite (q mu w b) (quarter-finite mu w b)) push-finite (sum-low mu w b) low)
+
   pub move-low : T (le (mul binary64 w half₀) v)
-  move-low =
-      le-trans-float (mul binary64 w half₀) (sub binary64 w (q mu w b)) v (rest-low mu w b)
-      (rw (sub-is binary64 w (q mu w b)) (add-mono binary64 w (sum mu w b) (neg (q mu w b)) push (b .w-finite) (sum-finite mu w b) (neg-finite (q mu w b) (quarter-finite mu w b)) push-finite (sum-low mu w b) low))
+  move-low = le-trans-float (mul binary64 w half₀) (sub binary64 w (q mu w b)) v (rest-low mu w b) move-rest
 
   pub move-finite : T (finite v)
   move-finite = between (mul binary64 w half₀) v farthest₀ (half-is w (b .w-finite) (b .w-fits) (b .w-low) .0) tt move-low move-high
@@ -151,3 +166,31 @@ module _ (mu w push : Float) (b : Beat mu w) (low : T (le (neg (mul binary64 w q
 
   pub left-high : T (lt (sub binary64 v (floored v)) one₀)
   left-high = part-below-one v move-finite (add-fits binary64 (sum mu w b) push) move-nonneg
+
+  -- ---- with a spacing of 3/2 or more it is 1 or more: half of 2 or more is, and below 2 the push is less than 1/2
+  move-one : T (le threeHalves₀ w) → T (le one₀ v)
+  move-one brisk = go (lt w two₀) refl
+    where
+      go : (d : Bool) → lt w two₀ ≡ d → T (le one₀ v)
+      go true e =
+          let small : T (le (q mu w b) half₀) = rw (← quarter-of-two) (mul-mono-left binary64 w two₀ quarter₀ (b .w-finite) tt tt (unfold le in tt) (lt→le w two₀ (yes e))) in
+          le-trans-float one₀ (sub binary64 w (q mu w b)) v (rw (← less-half) (sub-mono binary64 threeHalves₀ w half₀ (q mu w b) tt (b .w-finite) tt (quarter-finite mu w b) brisk small)) move-rest
+      go false e =
+          let above = not-lt→le w two₀ (finite-number w (b .w-finite)) tt (no e) in
+          le-trans-float one₀ (mul binary64 w half₀) v (rw (← half-of-two) (mul-mono-left binary64 two₀ w half₀ tt (b .w-finite) tt (unfold le in tt) above)) move-low
+
+  -- so the place moves on
+  pub move-onward : T (le threeHalves₀ w) → 1 ≤ floorPlus v
+  move-onward brisk = go (floorPlus v) refl
+    where
+      slack : (P N d F L : ℕ) → N ≡ 0 → F ≡ 0 → L ≡ 0 → P + L * d < F * d + d + N → 1 * d + N * 1 ≤ P * 1 + 0 * d → ⊥
+      slack P N d F L a b c h k = let g = simp (a, b, c, zero-mul) at h in let i = simp (a, zero-mul) at k in omega arith
+
+      go : (n : ℕ) → floorPlus v ≡ n → 1 ≤ n
+      go zero e =
+          let c = le→cross one₀ v tt move-finite (move-one brisk) in
+          let d = den-pos v in
+          let f = floor-next v move-finite in
+          let z = move-on in
+          absurd (slack (plus v) (less v) (den v) (floorPlus v) (floorLess v) (less-none v move-finite move-nonneg) e z f c)
+      go (suc n) e = omega arith

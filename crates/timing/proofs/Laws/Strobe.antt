@@ -1,4 +1,4 @@
--- One strobe keeps a steady clock steady, moves its place on by at most 1,312,501, and puts the next middle no earlier than the place it left, whatever the error is, if only it is finite.
+-- One strobe keeps a steady clock steady, moves its place on by 1 to 1,312,501, and puts the next middle no earlier than the place it left, whatever the error is, if only it is finite.
 -- Assumes nothing.
 use mathlib.Core.Path.{_≡_}
 use Prim.Native.Nat.{_+_, _≤_}
@@ -19,8 +19,8 @@ use Rattle.timing.specs.declared.clock.Clock.{Clock}
 use Rattle.timing.specs.Clock.{quarter₀, midway, newInteg, newOmega, moved, advanced}
 use Rattle.timing.specs.Given.{Tuned, Steady}
 use Rattle.timing.proofs.Laws.Setup.{limits}
-use Rattle.timing.proofs.Laws.Pace.{widest₀, lim-nonneg, lim-finite, spacing-low, spacing-high, spacing-of}
-use Rattle.timing.proofs.Laws.Step.{Beat, quarter-nonneg, quarter-finite, move-low, move-finite, move-above, move-nonneg, move-on, move-far, left-low, left-high}
+use Rattle.timing.proofs.Laws.Pace.{widest₀, lim-nonneg, lim-finite, spacing-low, spacing-brisk, spacing-high, spacing-of}
+use Rattle.timing.proofs.Laws.Step.{Beat, quarter-nonneg, quarter-finite, move-low, move-finite, move-above, move-nonneg, move-on, move-far, left-low, left-high, move-onward}
 use Rattle.timing.proofs.Laws.Middle.{next-near}
 
 -- ---- a steady clock's fraction and spacing
@@ -103,6 +103,10 @@ module _ (p : Params) (c : Clock) (e : Float) (t : Tuned p) (s : Steady p c) (E 
   pub v-far : floorPlus v ≤ 1312501
   unfolding moved
   v-far = move-far (c .mu) w push stride (push-in .0) (push-in .1)
+
+  pub v-onward : 1 ≤ floorPlus v
+  unfolding moved
+  v-onward = move-onward (c .mu) w push stride (push-in .0) (push-in .1) (spacing-brisk p t w (omega-in .0))
 
   pub advanced-steady : Steady p (advanced p c e)
   unfolding advanced moved
