@@ -7,3 +7,4 @@ pub mod Carrier
 pub mod Received
 pub mod Recording
 pub mod Onward
+pub mod Taken

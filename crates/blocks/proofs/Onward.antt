@@ -2,7 +2,7 @@
 use mathlib.Core.Path.{_≡_, refl, sym, ap, _∙_, subst}
 use mathlib.Core.Bool.{Bool, true, false, _&&_, cond}
 use mathlib.Core.List.{List}
-use Prim.Native.Nat.{ℕ, zero, suc, _+_, _-_, _≤_}
+use Prim.Native.Nat.{ℕ, zero, suc, _+_, _-_, _≤_, _<_}
 use native.Mathlib.Omega.{arith}
 use lib.Dec.{T}
 use lib.ListN.{length}
@@ -13,10 +13,13 @@ use Rattle.timing.specs.declared.clock.Clock.{Clock}
 use Rattle.timing.specs.Sample.{Ops}
 use Rattle.timing.specs.Clock.{midIndex, midPart, advanced}
 use Rattle.timing.specs.Given.{Running}
-use Rattle.timing.specs.Loop.{Track, Strobes, lacks, there, valueAt, withMid, midTaken, strobed, ready, stopped, more, runs}
+use Rattle.timing.specs.Loop.{Track, Strobes, lacks, there, valueAt, withMid, midTaken, strobed, ready, stopped, more, runs, consumed, trackBack}
+use Rattle.timing.specs.Run.{Sync, Given, line, ran}
 use Rattle.timing.proofs.Laws.Strobe.{v-onward, advanced-i}
-use Rattle.timing.proofs.Laws.Clock.{settled-finite}
-use Rattle.timing.proofs.Laws.Loop.{TrackRunning, valueHere, ready-window, midTaken-running, strobed-running}
+use Rattle.timing.proofs.Laws.Clock.{settled-finite, running-more}
+use Rattle.timing.proofs.Laws.Loop.{TrackRunning, valueHere, ready-window, midTaken-running, strobed-running, runs-running}
+use Rattle.timing.proofs.Laws.Run.{ran-all}
+use Rattle.blocks.proofs.Timing.{pending-first}
 
 -- taking the middle moves nothing
 mid-stays : {A : Type 0} (o : Ops A) (p : Params) (l : List A) (s : Track A) → midTaken o p l s .clock ≡ s .clock
@@ -56,3 +59,32 @@ module _ {A : Type 0} (o : Ops A) (p : Params) (l : List A) (n : ℕ) (long : le
       go : (t v : Track A) (y : A) (b : Bool) → (b ≡ true → t .clock .i ≤ n) → t .clock .i + 1 ≤ v .clock .i → (b ≡ true → Onward (v .clock .i) (runs o p l m v)) → Onward (t .clock .i) (cond b (more y (runs o p l m v)) (stopped t))
       go t v y true near on rest = let h = rest refl in let k = near refl in (omega arith, omega arith)
       go t v y false near on rest = (omega arith, omega arith)
+
+-- ---- a whole run
+module _ {A : Type 0} (o : Ops A) (s : Sync A) (xs : List A) (places : ℕ) (given : Given s) where
+  abbrev p : Params
+  p = s .params
+
+  abbrev l : List A
+  l = line (s .hist) xs
+
+  abbrev last : Track A
+  last = runs o p l places (s .track) .last
+
+  running : TrackRunning p (length xs) (s .track)
+  running = running-more p (s .track .clock) (lacks p (s .track)) (length xs) given
+
+  onward : Onward o p l (length xs) (omega arith) (s .track .clock .i) (runs o p l places (s .track))
+  onward = runs-onward o p l (length xs) (omega arith) places (s .track) running
+
+  -- a run with more places than samples takes all
+  pub ran-roomy : length xs < places → ran o s xs places .taken ≡ length xs
+  ran-roomy room = ran-all o s xs places (unfold ran in (let h = onward .1 in let i = given .first in omega arith))
+
+  -- the samples from the strobe's place on get fewer by a run's strobes
+  pub ran-nearer : let r = ran o s xs places in length xs - r .taken + 1 - r .state .track .clock .i + length (r .values) ≤ length xs + 1 - s .track .clock .i
+  unfolding ran consumed trackBack
+  ran-nearer =
+      let h = onward in
+      let f = pending-first p (length xs) last (runs-running o p l (length xs) (omega arith) places (s .track) running) in
+      omega arith

@@ -20,7 +20,7 @@ use Rattle.receiver.specs.Calls.{Call}
 use Rattle.receiver.proofs.Laws.Given.{called-given}
 use Rattle.receiver.proofs.Laws.Sparing.{first-even}
 use Rattle.blocks.specs.Instants.{Instant}
-use Rattle.blocks.specs.Receiver.{Waiting, start, handed, callOn, waitsAfter, Heard, heardOn, joined, silent, recorded, left, TakesAll, heard}
+use Rattle.blocks.specs.Receiver.{Waiting, start, handed, callOn, waitsAfter, Heard, heardOn, joined, silent, recorded, heard, waits, left}
 use Rattle.blocks.proofs.Longer.{both-tests}
 use Rattle.blocks.proofs.TimingCalls.{neither-odd, rest-samples}
 use Rattle.blocks.proofs.Received.{received, call-received, refused-silent, refused-waits, silent-first, received-joined, received-nothing}
@@ -31,15 +31,15 @@ places [] = 0
 places (c ∷ cs) = length (c .strobes) / 2 + places cs
 
 -- a call that is not refused is handed whole samples
-whole-samples : (xs zs ys : List Float) → accepts xs zs ys ≡ true → length xs % 2 ≡ 0
+pub whole-samples : (xs zs ys : List Float) → accepts xs zs ys ≡ true → length xs % 2 ≡ 0
 whole-samples xs zs ys h = neither-odd (length xs) (length zs) (first-even _ _ (both-tests (oddAny xs zs ys) (eqb (length zs) (length ys)) h .0)) .0
 
 -- ---- any cut is one run over the recording, with as many places as its calls have or more
 -- what is to be shown of the calls cs, after w
 abbrev OneRun : List Call → Type 0
-OneRun cs = (w : Waiting) (m : ℕ) → Given (w .receiver) → places cs ≤ m → left w cs ≡ [] → heard w cs ≡ received (w .receiver) (samples (w .rest ++ recorded cs)) m
+OneRun cs = (w : Waiting) (m : ℕ) → Given (w .receiver) → places cs ≤ m → waits w cs .rest ≡ [] → heard w cs ≡ received (w .receiver) (samples (w .rest ++ recorded cs)) m
 
-module _ (w : Waiting) (c : Call) (cs : List Call) (m : ℕ) (given : Given (w .receiver)) (room : length (c .strobes) / 2 + places cs ≤ m) (none : left (waitsAfter w c) cs ≡ []) (others : OneRun cs) where
+module _ (w : Waiting) (c : Call) (cs : List Call) (m : ℕ) (given : Given (w .receiver)) (room : length (c .strobes) / 2 + places cs ≤ m) (none : waits (waitsAfter w c) cs .rest ≡ []) (others : OneRun cs) where
   abbrev xs : List Float
   xs = handed w c
 
@@ -63,10 +63,10 @@ module _ (w : Waiting) (c : Call) (cs : List Call) (m : ℕ) (given : Given (w .
   -- a refused one, and those after it
   refused-first : accepts xs (c .strobes) (c .output) ≡ false → joined (heardOn w c) (heard (waitsAfter w c) cs) ≡ after (samples (xs ++ recorded cs))
   refused-first h =
-      let waits = refused-waits w c h in
-      ap₂ joined (refused-silent w c h) (ap (λ (v : Waiting). heard v cs) waits)
+      let stays = refused-waits w c h in
+      ap₂ joined (refused-silent w c h) (ap (λ (v : Waiting). heard v cs) stays)
       ∙ silent-first (w .receiver) (heard (record { receiver = w .receiver; rest = xs }) cs)
-      ∙ others (record { receiver = w .receiver; rest = xs }) m given (omega arith) (ap (λ (v : Waiting). left v cs) (sym waits) ∙ none)
+      ∙ others (record { receiver = w .receiver; rest = xs }) m given (omega arith) (ap (λ (v : Waiting). waits v cs .rest) (sym stays) ∙ none)
 
   first-one : joined (heardOn w c) (heard (waitsAfter w c) cs) ≡ after (samples (xs ++ recorded cs))
   first-one = go (accepts xs (c .strobes) (c .output)) refl
@@ -76,13 +76,13 @@ module _ (w : Waiting) (c : Call) (cs : List Call) (m : ℕ) (given : Given (w .
       go false h = refused-first h
 
 one-run : (cs : List Call) → OneRun cs
-unfolding heard left recorded places samples
+unfolding heard waits recorded places samples
 one-run [] w m given room none = sym (received-nothing (w .receiver) given m) ∙ ap (λ (l : List Float). received (w .receiver) (samples l) m) (sym (append-nil (w .rest) ∙ none))
 one-run (c ∷ cs) w m given room none = first-one w c cs m given room none (one-run cs) ∙ ap (λ (l : List Float). received (w .receiver) (samples l) m) (append-assoc (w .rest) (c .input) (recorded cs))
 
 -- ---- so no two ways of cutting it differ
 module _ (r : Receiver) (given : Given r) (cs ds : List Call) (same : recorded cs ≡ recorded ds) where
-  pub cut-never-shows : left (start r) cs ≡ [] → left (start r) ds ≡ [] → heard (start r) cs ≡ heard (start r) ds
+  pub cut-never-shows : left r cs ≡ [] → left r ds ≡ [] → heard (start r) cs ≡ heard (start r) ds
   cut-never-shows none nothing =
       let m = places cs + places ds in
       one-run cs (start r) m given (omega arith) none ∙ ap (λ (l : List Float). received r (samples l) m) same ∙ sym (one-run ds (start r) m given (omega arith) nothing)

@@ -52,7 +52,7 @@ pending-on {A} p k n t g = go (lacks p t) g
     go true g = mid-on k g tt
     go false g = refl
 
-pending-first : {A : Type 0} (p : Params) (n : ℕ) (t : Track A) → TrackRunning p n t → (1 ≤ pending p t) × (pending p t ≤ t .clock .i)
+pub pending-first : {A : Type 0} (p : Params) (n : ℕ) (t : Track A) → TrackRunning p n t → (1 ≤ pending p t) × (pending p t ≤ t .clock .i)
 unfolding pending
 pending-first p n t g = running-pending p (t .clock) (lacks p t) n g
 

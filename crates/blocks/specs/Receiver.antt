@@ -1,10 +1,10 @@
 -- A recording cut into sample calls, each handed what the last one left unconsumed and then its own block: what the calls give together. Definitions only.
 use mathlib.Core.Path.{_≡_}
-use Prim.Native.Nat.{ℕ, _+_, _*_, _/_}
+use Prim.Native.Nat.{ℕ, _+_, _*_, _/_, _≤_, _<_}
 use mathlib.Core.Bool.{true, cond}
 use mathlib.Core.List.{List, [], _∷_, _++_, map}
 use lib.Dec.{T}
-use lib.ListN.{length, drop}
+use lib.ListN.{length, drop, replicate}
 use lib.Ieee.{Float}
 use Rattle.values.specs.declared.sample.C32.{C32}
 use Rattle.values.specs.Samples.{samples}
@@ -12,7 +12,7 @@ use Rattle.timing.specs.Sample.{complex}
 use Rattle.symbol_sync.specs.Complex.{sync}
 use Rattle.receiver.specs.declared.record.Receiver.{Receiver}
 use Rattle.receiver.specs.Call.{Outcome, called, accepts}
-use Rattle.receiver.specs.Calls.{Call, strobesOf, outputsOf}
+use Rattle.receiver.specs.Calls.{Call, whole, strobesOf, outputsOf}
 use Rattle.blocks.specs.Instants.{Instant, later, instants}
 
 -- the receiver between two calls, and the samples that it was handed and has not consumed
@@ -73,17 +73,35 @@ unfoldable pub recorded : List Call → List Float
 recorded [] = []
 recorded (c ∷ cs) = c .input ++ recorded cs
 
--- what is left unconsumed in the end
-unfoldable pub left : Waiting → List Call → List Float
-left w [] = w .rest
-left w (c ∷ cs) = left (waitsAfter w c) cs
+-- what the calls give together
+unfoldable pub heard : Waiting → List Call → Heard
+heard w [] = silent (w .receiver)
+heard w (c ∷ cs) = joined (heardOn w c) (heard (waitsAfter w c) cs)
 
+-- the receiver after them, and what is left unconsumed
+unfoldable pub waits : Waiting → List Call → Waiting
+waits w [] = w
+waits w (c ∷ cs) = waits (waitsAfter w c) cs
+
+abbrev pub left : Receiver → List Call → List Float
+left r cs = waits (start r) cs .rest
+
+-- ---- when all is taken
 -- each call has places enough that it takes all that it is handed
 unfoldable pub TakesAll : Waiting → List Call → Type 0
 TakesAll w [] = T true
 TakesAll w (c ∷ cs) = (2 * callOn w c .consumed ≡ length (handed w c)) × TakesAll (waitsAfter w c) cs
 
--- what the calls give together
-unfoldable pub heard : Waiting → List Call → Heard
-heard w [] = silent (w .receiver)
-heard w (c ∷ cs) = joined (heardOn w c) (heard (waitsAfter w c) cs)
+-- by their lengths alone: each call's buffers fit, and have more places than its block has samples
+unfoldable pub Roomy : List Call → Type 0
+Roomy [] = T true
+Roomy (c ∷ cs) = (whole c ≡ true) × ((length (c .input) / 2 < length (c .strobes) / 2) × Roomy cs)
+
+-- what is left is handed again, n times, with places in buffers as long as zs and ys
+abbrev pub again : ℕ → List Float → List Float → List Call
+again n zs ys = replicate n (record { input = []; strobes = zs; output = ys })
+
+-- the buffers fit, and have a place
+pub record APlace (zs ys : List Float) : Type 0 where
+  pub fits : accepts [] zs ys ≡ true
+  pub place : 1 ≤ length zs / 2
