@@ -1,14 +1,13 @@
 -- A run of the carrier on xs and then one on ys are one run on xs followed by ys, from any state; and so are two calls that are not refused. Assumes nothing.
 use mathlib.Core.Path.{_≡_, refl, sym, ap, _∙_}
-use mathlib.Core.Bool.{Bool, true, false, not, _&&_}
+use mathlib.Core.Bool.{true, false}
 use mathlib.Core.List.{List, [], _∷_, _++_}
-use Prim.Native.Nat.{ℕ, _%_}
+use Prim.Native.Nat.{_%_}
 use native.Mathlib.Omega.{arith}
 use borrow.Author.Tests.{eqb-true}
-use lib.Dec.{T, eqb}
+use lib.Dec.{eqb}
 use lib.ListN.{length, length-append}
 use lib.Ieee.{Float}
-use Rattle.ieee.proofs.Test.{yes}
 use Rattle.values.specs.declared.sample.C32.{C32}
 use Rattle.values.specs.Samples.{samples, parts}
 use Rattle.values.proofs.Laws.Samples.{samples-append}

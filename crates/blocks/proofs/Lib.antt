@@ -3,8 +3,9 @@ pub mod Shifted
 pub mod Instants
 pub mod Timing
 pub mod TimingCalls
+pub mod Onward
 pub mod Carrier
 pub mod Received
 pub mod Recording
-pub mod Onward
 pub mod Taken
+pub mod Cuts

@@ -1,15 +1,14 @@
 -- More input behind what a timing run has: it takes the same strobes at the same clocks, and goes on from where it stopped. Over any sample type. Assumes nothing.
-use mathlib.Core.Path.{_≡_, refl, sym, ap, _∙_, subst}
+use mathlib.Core.Path.{_≡_, refl, sym, ap, _∙_}
 use mathlib.Core.Bool.{Bool, true, false, not, _&&_, cond}
 use mathlib.Core.List.{List, [], _∷_, _++_}
-use Prim.Native.Nat.{ℕ, zero, suc, _+_, _-_, _≤_, _<_}
+use Prim.Native.Nat.{ℕ, zero, suc, _+_, _-_, _≤_}
 use native.Mathlib.Nat.{sub-zero, suc-sub-suc}
 use native.Mathlib.Omega.{arith}
 use borrow.Author.Tests.{lt-ltb, ltb-true}
-use lib.Dec.{T, ltb}
+use lib.Dec.{ltb}
 use lib.ListN.{length, getD, length-append, List·getD-append}
 use lib.Ieee.{Float}
-use lib.Ieee.Fits.{and-l, and-r}
 use Rattle.ieee.proofs.Test.{yes}
 use Rattle.numbers.specs.Narrowing.{narrowed}
 use Rattle.timing.specs.declared.params.Params.{Params}
@@ -37,6 +36,15 @@ module _ {A : Type 0} (o : Ops A) (p : Params) where
   -- a middle that is not lacking is not taken
   not-again : (m : List A) (s : Track A) → lacks p s ≡ false → midTaken o p m s ≡ s
   not-again m s h = mid-by m s h refl
+
+  -- it moves nothing
+  pub mid-stays : (m : List A) (s : Track A) → midTaken o p m s .clock ≡ s .clock
+  unfolding midTaken
+  mid-stays m s = go (lacks p s && there m (midIndex (s .clock)))
+    where
+      go : (b : Bool) → cond b (middle m s) s .clock ≡ s .clock
+      go true = refl
+      go false = refl
 
 -- ---- a place of a run, with the middle taken: the strobes from here on, and the clocks
 module _ {A : Type 0} (o : Ops A) (p : Params) (l : List A) (n : ℕ) (t : Track A) where

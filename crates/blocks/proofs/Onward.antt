@@ -1,6 +1,6 @@
 -- Each strobe moves a timing run on by a sample or more, so a run takes no more strobes than it has samples. Over any sample type. Assumes nothing.
-use mathlib.Core.Path.{_≡_, refl, sym, ap, _∙_, subst}
-use mathlib.Core.Bool.{Bool, true, false, _&&_, cond}
+use mathlib.Core.Path.{_≡_, refl, subst}
+use mathlib.Core.Bool.{Bool, true, false, cond}
 use mathlib.Core.List.{List}
 use Prim.Native.Nat.{ℕ, zero, suc, _+_, _-_, _≤_, _<_}
 use native.Mathlib.Omega.{arith}
@@ -11,24 +11,16 @@ use lib.Ieee.Scale.{finite}
 use Rattle.timing.specs.declared.params.Params.{Params}
 use Rattle.timing.specs.declared.clock.Clock.{Clock}
 use Rattle.timing.specs.Sample.{Ops}
-use Rattle.timing.specs.Clock.{midIndex, midPart, advanced}
+use Rattle.timing.specs.Clock.{advanced}
 use Rattle.timing.specs.Given.{Running}
-use Rattle.timing.specs.Loop.{Track, Strobes, lacks, there, valueAt, withMid, midTaken, strobed, ready, stopped, more, runs, consumed, trackBack}
+use Rattle.timing.specs.Loop.{Track, Strobes, lacks, midTaken, strobed, ready, stopped, more, runs, consumed, trackBack}
 use Rattle.timing.specs.Run.{Sync, Given, line, ran}
 use Rattle.timing.proofs.Laws.Strobe.{v-onward, advanced-i}
 use Rattle.timing.proofs.Laws.Clock.{settled-finite, running-more}
 use Rattle.timing.proofs.Laws.Loop.{TrackRunning, valueHere, ready-window, midTaken-running, strobed-running, runs-running}
 use Rattle.timing.proofs.Laws.Run.{ran-all}
+use Rattle.blocks.proofs.Longer.{mid-stays}
 use Rattle.blocks.proofs.Timing.{pending-first}
-
--- taking the middle moves nothing
-mid-stays : {A : Type 0} (o : Ops A) (p : Params) (l : List A) (s : Track A) → midTaken o p l s .clock ≡ s .clock
-unfolding midTaken
-mid-stays o p l s = go (lacks p s && there l (midIndex (s .clock))) (valueAt o l (midIndex (s .clock)) (midPart (s .clock)))
-  where
-    go : (b : Bool) (m : _) → cond b (withMid s m) s .clock ≡ s .clock
-    go true m = refl
-    go false m = refl
 
 advanced-onward : (p : Params) (c : Clock) (b : Bool) (n : ℕ) → Running p c b n → (e : Float) → T (finite e) → c .i + 1 ≤ advanced p c e .i
 advanced-onward p c b n g e E =

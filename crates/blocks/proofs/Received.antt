@@ -2,7 +2,7 @@
 use mathlib.Core.Path.{_≡_, refl, sym, ap, ap₂, _∙_, subst}
 use mathlib.Core.Bool.{Bool, true, false, not, _&&_, cond}
 use mathlib.Core.List.{List, [], _∷_, _++_, map}
-use Prim.Native.Nat.{ℕ, zero, suc, _+_, _-_, _*_, _/_, _%_, _≤_}
+use Prim.Native.Nat.{ℕ, _+_, _-_, _*_, _/_, _≤_}
 use native.Mathlib.Nat.{zero-add}
 use borrow.Author.Tests.{eqb-true, eqb-false}
 use lib.Dec.{T, eqb}
@@ -29,9 +29,10 @@ use Rattle.receiver.proofs.Laws.Refused.{called-odd, called-uneven, called-done
 use Rattle.receiver.proofs.Laws.Count.{held-none, held-twice}
 use Rattle.blocks.specs.Instants.{Instant, later, instants}
 use Rattle.blocks.specs.Timing.{goesOn, together}
-use Rattle.blocks.specs.Receiver.{Waiting, handed, callOn, waitsAfter, Heard, instantsOn, heardOn, joined, silent}
+use Rattle.blocks.specs.Receiver.{Waiting, handed, callOn, waitsAfter, Heard, heardOn, joined, silent}
 use Rattle.blocks.proofs.Timing.{ran-together, instants-together, ran-nothing, instants-nothing}
 use Rattle.blocks.proofs.Longer.{both-tests}
+use Rattle.blocks.proofs.Instants.{instants-count}
 use Rattle.blocks.proofs.Carrier.{runs-together}
 
 -- ---- one run over the samples l, with n places
@@ -54,6 +55,9 @@ assembled r t c is = record {
 
 abbrev pub received : Receiver → List C32 → ℕ → Heard
 received r l n = assembled r (timed r l n) (carried r (timed r l n .values)) (instants complex (sync (r .timing)) l n)
+
+pub received-instants : (r : Receiver) (l : List C32) (n : ℕ) → length (received r l n .instants) ≡ received r l n .produced
+received-instants r l n = instants-count complex (sync (r .timing)) l n
 
 -- ---- a call that is not refused is one
 module _ (w : Waiting) (c : Call) where

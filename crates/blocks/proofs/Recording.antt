@@ -1,11 +1,11 @@
 -- How a recording is cut never shows: from any given receiver, all ways of cutting it into calls, after which nothing is left, give the same strobes, outputs, instants, counts and record. Assumes nothing.
 use mathlib.Core.Path.{_≡_, refl, sym, ap, ap₂, _∙_, subst}
 use mathlib.Core.Bool.{Bool, true, false}
-use mathlib.Core.List.{List, [], _∷_, _++_, append-assoc, append-nil}
-use Prim.Native.Nat.{ℕ, _+_, _-_, _*_, _/_, _%_, _≤_}
+use mathlib.Core.List.{List, [], _∷_, _++_, map, append-assoc, append-nil}
+use Prim.Native.Nat.{ℕ, _+_, _-_, _/_, _%_, _≤_}
 use native.Mathlib.Omega.{arith}
 use lib.Dec.{eqb}
-use lib.ListN.{length, drop}
+use lib.ListN.{length, drop, length-append, length-map}
 use lib.Ieee.{Float}
 use Rattle.values.specs.declared.sample.C32.{C32}
 use Rattle.values.specs.Samples.{samples}
@@ -19,11 +19,11 @@ use Rattle.receiver.specs.Call.{accepts, oddAny}
 use Rattle.receiver.specs.Calls.{Call}
 use Rattle.receiver.proofs.Laws.Given.{called-given}
 use Rattle.receiver.proofs.Laws.Sparing.{first-even}
-use Rattle.blocks.specs.Instants.{Instant}
-use Rattle.blocks.specs.Receiver.{Waiting, start, handed, callOn, waitsAfter, Heard, heardOn, joined, silent, recorded, heard, waits, left}
+use Rattle.blocks.specs.Instants.{later}
+use Rattle.blocks.specs.Receiver.{Waiting, start, handed, waitsAfter, Heard, heardOn, joined, silent, recorded, heard, waits, left}
 use Rattle.blocks.proofs.Longer.{both-tests}
 use Rattle.blocks.proofs.TimingCalls.{neither-odd, rest-samples}
-use Rattle.blocks.proofs.Received.{received, call-received, refused-silent, refused-waits, silent-first, received-joined, received-nothing}
+use Rattle.blocks.proofs.Received.{received, received-instants, call-received, refused-silent, refused-waits, silent-first, received-joined, received-nothing}
 
 -- the places of all calls
 unfoldable places : List Call → ℕ
@@ -86,3 +86,16 @@ module _ (r : Receiver) (given : Given r) (cs ds : List Call) (same : recorded c
   cut-never-shows none nothing =
       let m = places cs + places ds in
       one-run cs (start r) m given (omega arith) none ∙ ap (λ (l : List Float). received r (samples l) m) same ∙ sym (one-run ds (start r) m given (omega arith) nothing)
+
+-- ---- each symbol has its instant
+pub one-instant-each : (cs : List Call) (w : Waiting) → length (heard w cs .instants) ≡ heard w cs .produced
+unfolding heard
+one-instant-each [] w = refl
+one-instant-each (c ∷ cs) w =
+    let q = heardOn w c in
+    let h = heard (waitsAfter w c) cs in
+    omega (arith, length-append (q .instants) (map (later (q .consumed)) (h .instants)), length-map (h .instants) (later (q .consumed)), call-instants (accepts (handed w c) (c .strobes) (c .output)) refl, one-instant-each cs (waitsAfter w c))
+  where
+    call-instants : (b : Bool) → accepts (handed w c) (c .strobes) (c .output) ≡ b → length (heardOn w c .instants) ≡ heardOn w c .produced
+    call-instants true e = subst (λ (q : Heard). length (q .instants) ≡ q .produced) (sym (call-received w c e)) (received-instants (w .receiver) (samples (handed w c)) (length (c .strobes) / 2))
+    call-instants false e = subst (λ (q : Heard). length (q .instants) ≡ q .produced) (sym (refused-silent w c e)) refl

@@ -1,7 +1,7 @@
 -- A timing run from sample k of a list on, its clock k places back: it takes the same strobes, each k places back. So it does not show what is consumed between two runs. Over any sample type. Assumes nothing.
 use mathlib.Core.Path.{_≡_, refl, sym, ap, ap₂, _∙_}
 use mathlib.Core.Bool.{Bool, true, false, not, _&&_, cond}
-use mathlib.Core.List.{List, [], _∷_, map}
+use mathlib.Core.List.{List, _∷_, map}
 use Prim.Native.Nat.{ℕ, zero, suc, _+_, _-_, _≤_}
 use native.Mathlib.Omega.{arith}
 use lib.Dec.{T, ltb, ltb→lt, lt→ltb}
@@ -18,7 +18,7 @@ use Rattle.timing.specs.declared.clock.Clock.{Clock}
 use Rattle.timing.specs.Sample.{Ops}
 use Rattle.timing.specs.Clock.{midway, midIndex, midPart, newInteg, newOmega, moved, advanced, settled, midLeft}
 use Rattle.timing.specs.Given.{Running}
-use Rattle.timing.specs.Loop.{Track, Strobes, lacks, there, valueAt, withMid, midTaken, decision, errorOf, strobed, ready, stopped, more, runs}
+use Rattle.timing.specs.Loop.{Track, Strobes, lacks, there, valueAt, withMid, midTaken, decision, errorOf, strobed, ready, more, runs}
 use Rattle.timing.proofs.Laws.Strobe.{advanced-i}
 use Rattle.timing.proofs.Laws.Clock.{settled-finite, kept, running-mid}
 use Rattle.timing.proofs.Laws.Loop.{TrackRunning, valueHere, midTaken-running, strobed-running}

@@ -16,7 +16,7 @@ use Rattle.values.specs.Samples.{samples}
 use Rattle.values.proofs.Laws.Samples.{length-samples}
 use Rattle.timing.specs.Sample.{complex}
 use Rattle.timing.specs.Run.{Ran, ran}
-use Rattle.timing.proofs.Laws.Run.{ran-produced, ran-all}
+use Rattle.timing.proofs.Laws.Run.{ran-all}
 use Rattle.symbol_sync.specs.Complex.{sync}
 use Rattle.receiver.specs.declared.record.Receiver.{Receiver}
 use Rattle.receiver.specs.Record.{Given}

@@ -1,12 +1,11 @@
 -- A timing run on xs, then one on what it did not consume followed by ys, is one run on xs followed by ys: values, count, state and instants. Over any sample type, from any given state. Assumes nothing.
-use mathlib.Core.Path.{_≡_, refl, sym, ap, ap₂, _∙_, subst}
+use mathlib.Core.Path.{_≡_, refl, sym, ap, _∙_}
 use mathlib.Core.Bool.{Bool, true, false, not, _&&_, cond, and-false}
 use mathlib.Core.List.{List, [], _∷_, _++_, map}
-use Prim.Native.Nat.{ℕ, zero, suc, _+_, _-_, _≤_, _<_, min}
+use Prim.Native.Nat.{ℕ, zero, suc, _+_, _-_, _≤_, _<_}
 use native.Mathlib.Nat.{sub-zero}
 use native.Mathlib.Omega.{arith}
 use borrow.Author.Tests.{le-ltb}
-use lib.Dec.{T}
 use lib.ListN.{length, getD, drop, length-append, length-drop, List·getD-append}
 use lib.Seq.{drop-cons, drop-append-le}
 use Rattle.ieee.proofs.Test.{yes}
@@ -19,8 +18,8 @@ use Rattle.timing.specs.Loop.{Track, Strobes, lacks, there, midTaken, ready, st
 use Rattle.timing.specs.Run.{Hist, Sync, Given, line, histAt, Ran, ran}
 use Rattle.timing.proofs.Laws.Clock.{running-pending, running-more}
 use Rattle.timing.proofs.Laws.Loop.{TrackRunning, runs-running}
-use Rattle.timing.proofs.Laws.Run.{ran-given, ran-consumed}
-use Rattle.blocks.specs.Instants.{clocks, Instant, instantOf, later, instants}
+use Rattle.timing.proofs.Laws.Run.{ran-given}
+use Rattle.blocks.specs.Instants.{clocks, instantOf, later, instants}
 use Rattle.blocks.specs.Timing.{goesOn, together}
 use Rattle.blocks.proofs.Longer.{mid-by, runs-longer}
 use Rattle.blocks.proofs.Shifted.{clockOn, trackOn, mid-on, sample-on, runs-on}
@@ -41,7 +40,7 @@ line-next {A} o h xs ys k in-xs =
     let c = same (k + 2) (omega arith) in
     (λ j. a j ∷ b j ∷ c j ∷ sym rest j)
     ∙ sym (next k (k + 1) (omega arith) (omega arith)
-          ∙ ap (λ (t : List A). getD m k (o .zero) ∷ t) (next (k + 1) (k + 2) (omega arith) (omega arith) ∙ ap (λ (t : List A). getD m (k + 1) (o .zero) ∷ t) (next (k + 2) (k + 3) (omega arith) (omega arith))))
+    ∙ ap (λ (t : List A). getD m k (o .zero) ∷ t) (next (k + 1) (k + 2) (omega arith) (omega arith) ∙ ap (λ (t : List A). getD m (k + 1) (o .zero) ∷ t) (next (k + 2) (k + 3) (omega arith) (omega arith))))
 
 -- ---- k places on
 pending-on : {A : Type 0} (p : Params) (k n : ℕ) (t : Track A) → TrackRunning p n t → pending p (trackOn k t) ≡ pending p t + k
@@ -144,7 +143,7 @@ module _ {A : Type 0} (o : Ops A) (s : Sync A) (xs ys : List A) (n m : ℕ) (few
       let f = runs-on o p whole k (length rest) long places track next-running in
       let back = on-back k (first .last) k-back in
       let runs-second : runs o p whole places (first .last) ≡ record { values = second .values; last = trackOn k (second .last) }
-          = ap (runs o p whole places) (sym back) ∙ f .0 ∙ ap (λ (l : List A). let r = runs o p l places track in record { values = r .values; last = trackOn k (r .last) }) (sym next-is) in
+      = ap (runs o p whole places) (sym back) ∙ f .0 ∙ ap (λ (l : List A). let r = runs o p l places track in record { values = r .values; last = trackOn k (r .last) }) (sym next-is) in
       let clocks-second = ap (clocks o p whole places) (sym back) ∙ f .1 ∙ ap (λ (l : List A). map (clockOn k) (clocks o p l places track)) (sym next-is) in (
         e .0 ∙ ap (λ (r : Strobes A). record { values = first .values ++ r .values; last = r .last }) runs-second,
         e .1 ∙ ap (λ (cs : List Clock). clocks o p (line (s .hist) xs) n (s .track) ++ cs) clocks-second,

@@ -2,8 +2,8 @@
 use mathlib.Core.Path.{_≡_, refl, sym, ap, ap₂, _∙_, subst}
 use mathlib.Core.Bool.{Bool, true, false, _||_}
 use mathlib.Core.List.{List, [], _∷_, _++_, append-assoc}
-use Prim.Native.Nat.{ℕ, _+_, _-_, _*_, _/_, _%_, _≤_}
-use native.Mathlib.Nat.{zero-add, one-mul, mul-le-mul-left, mul-add}
+use Prim.Native.Nat.{ℕ, _+_, _-_, _*_, _/_, _%_}
+use native.Mathlib.Nat.{zero-add, one-mul}
 use native.Mathlib.Omega.{arith}
 use borrow.Author.Tests.{eqb-true, eqb-false}
 use lib.Dec.{T, eqb}
@@ -12,10 +12,10 @@ use lib.Seq.{take-at, drop-at, drop-drop}
 use lib.Ieee.{Float}
 use Rattle.values.specs.declared.sample.C32.{C32}
 use Rattle.values.specs.Samples.{samples, parts}
-use Rattle.values.proofs.Laws.Samples.{length-samples, samples-drop, samples-append}
-use Rattle.timing.specs.Sample.{Ops, real, complex}
+use Rattle.values.proofs.Laws.Samples.{samples-drop, samples-append}
+use Rattle.timing.specs.Sample.{real, complex}
 use Rattle.timing.specs.Run.{Sync, Given, Ran, ran, Outcome, written, done, oddEither, calledReal, doneComplex, calledComplex}
-use Rattle.timing.proofs.Laws.Run.{ran-produced, ran-consumed, both-even, odd-input, odd-output, calledComplex-refused, calledComplex-done}
+use Rattle.timing.proofs.Laws.Run.{both-even, odd-input, calledComplex-refused, calledComplex-done}
 use Rattle.timing.proofs.Laws.Shown.{Form, onefold, twofold, length-slice}
 use Rattle.blocks.specs.Timing.{goesOn, together, callTogether, goesOnReal, goesOnComplex}
 use Rattle.blocks.proofs.Timing.{ran-together}
@@ -50,7 +50,7 @@ module _ {A : Type 0} (m : Form A) where
         let long : n + length ws ≡ length (m .slice (q .values ++ r .values)) = omega (arith, ap length all, length-append vs ws, length-slice m (q .values)) in
         let behind = drop-drop (length ws) n zs ∙ ap (λ (x : ℕ). drop x zs) long in
         let output : take n (done (m .slice) q zs .output) ++ written ws (drop n zs) ≡ written (m .slice (q .values ++ r .values)) zs
-            = ap₂ (λ (a b : List Float). a ++ (ws ++ b)) stored-front behind ∙ sym (append-assoc vs ws (drop (length (m .slice (q .values ++ r .values))) zs)) ∙ ap (λ (l : List Float). l ++ drop (length (m .slice (q .values ++ r .values))) zs) (sym all) in
+        = ap₂ (λ (a b : List Float). a ++ (ws ++ b)) stored-front behind ∙ sym (append-assoc vs ws (drop (length (m .slice (q .values ++ r .values))) zs)) ∙ ap (λ (l : List Float). l ++ drop (length (m .slice (q .values ++ r .values))) zs) (sym all) in
         λ j. record { number = 0; consumed = q .taken + r .taken; produced = produced j; state = r .state; output = output j }
 
 -- ---- real samples

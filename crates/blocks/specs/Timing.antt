@@ -5,7 +5,7 @@ use lib.ListN.{length, take, drop}
 use lib.Ieee.{Float}
 use Rattle.values.specs.declared.sample.C32.{C32}
 use Rattle.timing.specs.Sample.{Ops}
-use Rattle.timing.specs.Run.{Sync, Ran, ran, Outcome, calledReal, calledComplex}
+use Rattle.timing.specs.Run.{Ran, ran, Outcome, calledReal, calledComplex}
 
 -- ---- two runs
 -- the run that goes on after q, which ran on xs, where there are `places` in all

@@ -37,7 +37,7 @@ module _ {A : Type 0} (o : Ops A) (s : Sync A) (xs : List A) (places : ℕ) wher
   unfolding ran
   ran-produced = runs-count o (s .params) (line (s .hist) xs) places (s .track)
 
-  pub ran-consumed : ran o s xs places .taken ≤ length xs
+  ran-consumed : ran o s xs places .taken ≤ length xs
   unfolding ran consumed
   ran-consumed = omega arith
 
