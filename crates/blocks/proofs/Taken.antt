@@ -25,7 +25,7 @@ use Rattle.receiver.specs.Calls.{Call}
 use Rattle.receiver.proofs.Laws.Given.{called-given}
 use Rattle.receiver.proofs.Laws.Sparing.{first-even, called-sparing}
 use Rattle.receiver.proofs.Laws.Refused.{all-even}
-use Rattle.blocks.specs.Receiver.{Waiting, start, handed, callOn, waitsAfter, Heard, heardOn, recorded, waits, left, TakesAll, Roomy, again, APlace}
+use Rattle.blocks.specs.Receiver.{Waiting, start, handed, callOn, waitsAfter, Heard, heardOn, recorded, waits, left, TakesAll, Roomy, again, oftenEnough, APlace}
 use Rattle.blocks.proofs.Longer.{both-tests}
 use Rattle.blocks.proofs.Onward.{ran-roomy, ran-nearer}
 use Rattle.blocks.proofs.TimingCalls.{neither-odd, even-not-odd}
@@ -173,7 +173,7 @@ recorded-again [] (suc n) zs ys = recorded-again [] n zs ys
 recorded-again (c ∷ cs) n zs ys = ap (λ (l : List Float). c .input ++ l) (recorded-again cs n zs ys)
 
 -- a recording of whole samples is taken, whatever places its calls have, if what they leave is handed again as often as it has samples and once more
-pub again-left : (r : Receiver) (cs : List Call) (zs ys : List Float) → Given r → APlace zs ys → length (recorded cs) % 2 ≡ 0 → left r (cs ++ again (suc (length (recorded cs) / 2)) zs ys) ≡ []
+pub again-left : (r : Receiver) (cs : List Call) (zs ys : List Float) → Given r → APlace zs ys → length (recorded cs) % 2 ≡ 0 → left r (cs ++ again (oftenEnough cs) zs ys) ≡ []
 again-left r cs zs ys given lent even =
     let n = length (recorded cs) / 2 in
     let w = waits (start r) cs in

@@ -1,6 +1,6 @@
 -- A recording cut into sample calls, each handed what the last one left unconsumed and then its own block: what the calls give together. Definitions only.
 use mathlib.Core.Path.{_≡_}
-use Prim.Native.Nat.{ℕ, _+_, _*_, _/_, _≤_, _<_}
+use Prim.Native.Nat.{ℕ, suc, _+_, _*_, _/_, _≤_, _<_}
 use mathlib.Core.Bool.{true, cond}
 use mathlib.Core.List.{List, [], _∷_, _++_, map}
 use lib.Dec.{T}
@@ -100,6 +100,10 @@ Roomy (c ∷ cs) = (whole c ≡ true) × ((length (c .input) / 2 < length (c .st
 -- what is left is handed again, n times, with places in buffers as long as zs and ys
 abbrev pub again : ℕ → List Float → List Float → List Call
 again n zs ys = replicate n (record { input = []; strobes = zs; output = ys })
+
+-- as often as the recording has samples, and once more
+abbrev pub oftenEnough : List Call → ℕ
+oftenEnough cs = suc (length (recorded cs) / 2)
 
 -- the buffers fit, and have a place
 pub record APlace (zs ys : List Float) : Type 0 where
