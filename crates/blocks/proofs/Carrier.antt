@@ -8,6 +8,7 @@ use borrow.Author.Tests.{eqb-true}
 use lib.Dec.{eqb}
 use lib.ListN.{length, length-append}
 use lib.Ieee.{Float}
+use Rattle.ieee.proofs.Test.{both-tests}
 use Rattle.values.specs.declared.sample.C32.{C32}
 use Rattle.values.specs.Samples.{samples, parts}
 use Rattle.values.proofs.Laws.Samples.{samples-append}
@@ -23,7 +24,6 @@ use Rattle.carrier.specs.Step.{Symbols, stepped, outputOf, runs}
 use Rattle.carrier.specs.Run.{Outcome, done, called, accepts}
 use Rattle.carrier.proofs.Laws.Refused.{called-done}
 use Rattle.blocks.specs.Carrier.{symbolsTogether, callTogether}
-use Rattle.blocks.proofs.Longer.{both-tests}
 use Rattle.blocks.proofs.TimingCalls.{slice-append, neither-odd, even-not-odd}
 
 pub runs-together : (table : List Float) (c : CostasConstellation) (p : Params) (t : Track) (xs ys : List C32) → let q = runs table c p t xs in symbolsTogether q (runs table c p (q .last) ys) ≡ runs table c p t (xs ++ ys)

@@ -12,8 +12,8 @@ use Rattle.timing.specs.Sample.{Ops}
 use Rattle.timing.specs.Loop.{Track, Strobes, valueAt, midTaken, strobed, ready, stopped, more, runs}
 use Rattle.timing.specs.Run.{Sync, line, ran}
 use Rattle.timing.proofs.Laws.Loop.{valueHere}
+use Rattle.timing.proofs.Laws.Taken.{mid-stays}
 use Rattle.blocks.specs.Instants.{clocks, Instant, instantOf, later, instants}
-use Rattle.blocks.proofs.Longer.{mid-stays}
 use Rattle.blocks.proofs.Shifted.{clockOn}
 
 -- ---- k places on

@@ -1,6 +1,6 @@
 -- More input behind what a timing run has: it takes the same strobes at the same clocks, and goes on from where it stopped. Over any sample type. Assumes nothing.
 use mathlib.Core.Path.{_≡_, refl, sym, ap, _∙_}
-use mathlib.Core.Bool.{Bool, true, false, not, _&&_, cond}
+use mathlib.Core.Bool.{Bool, true, false, cond}
 use mathlib.Core.List.{List, [], _∷_, _++_}
 use Prim.Native.Nat.{ℕ, zero, suc, _+_, _-_, _≤_}
 use native.Mathlib.Nat.{sub-zero, suc-sub-suc}
@@ -9,7 +9,7 @@ use borrow.Author.Tests.{lt-ltb, ltb-true}
 use lib.Dec.{ltb}
 use lib.ListN.{length, getD, length-append, List·getD-append}
 use lib.Ieee.{Float}
-use Rattle.ieee.proofs.Test.{yes}
+use Rattle.ieee.proofs.Test.{both-tests}
 use Rattle.numbers.specs.Narrowing.{narrowed}
 use Rattle.timing.specs.declared.params.Params.{Params}
 use Rattle.timing.specs.declared.clock.Clock.{Clock}
@@ -17,34 +17,8 @@ use Rattle.timing.specs.Sample.{Ops}
 use Rattle.timing.specs.Clock.{midIndex, midPart}
 use Rattle.timing.specs.Loop.{Track, Strobes, lacks, there, valueAt, withMid, midTaken, strobed, ready, stopped, more, runs}
 use Rattle.timing.proofs.Laws.Loop.{held, valueHere}
+use Rattle.timing.proofs.Laws.Taken.{middle, mid-by, mid-not-lacking}
 use Rattle.blocks.specs.Instants.{clocks}
-
--- what a test of two says
-pub both-tests : (a b : Bool) → (not a && b) ≡ true → (a ≡ false) × (b ≡ true)
-both-tests false b h = (refl, h)
-both-tests true b h = absurd (yes h)
-
--- ---- the middle, taken or left by two tests
-module _ {A : Type 0} (o : Ops A) (p : Params) where
-  abbrev pub middle : List A → Track A → Track A
-  middle m s = withMid s (valueAt o m (midIndex (s .clock)) (midPart (s .clock)))
-
-  pub mid-by : (m : List A) (s : Track A) {a b : Bool} → lacks p s ≡ a → there m (midIndex (s .clock)) ≡ b → midTaken o p m s ≡ cond (a && b) (middle m s) s
-  unfolding midTaken
-  mid-by m s h k = λ j. cond (h j && k j) (middle m s) s
-
-  -- a middle that is not lacking is not taken
-  not-again : (m : List A) (s : Track A) → lacks p s ≡ false → midTaken o p m s ≡ s
-  not-again m s h = mid-by m s h refl
-
-  -- it moves nothing
-  pub mid-stays : (m : List A) (s : Track A) → midTaken o p m s .clock ≡ s .clock
-  unfolding midTaken
-  mid-stays m s = go (lacks p s && there m (midIndex (s .clock)))
-    where
-      go : (b : Bool) → cond b (middle m s) s .clock ≡ s .clock
-      go true = refl
-      go false = refl
 
 -- ---- a place of a run, with the middle taken: the strobes from here on, and the clocks
 module _ {A : Type 0} (o : Ops A) (p : Params) (l : List A) (n : ℕ) (t : Track A) where
@@ -79,7 +53,7 @@ module _ {A : Type 0} (o : Ops A) (p : Params) (l ys : List A) where
           let i = midIndex (s .clock) in
           let m = l ++ ys in
           ap (midTaken o p m) (mid-by o p l s h k)
-          ∙ not-again o p m (middle o p l s) (held (p .ted) (s .started))
+          ∙ sym (mid-not-lacking o p m (withMid s (middle o p l s)) (held (p .ted) (s .started)))
           ∙ ap (withMid s) (sym (value-longer i (midPart (s .clock)) k))
           ∙ sym (mid-by o p m s h (there-longer i k))
       go true false h k = ap (midTaken o p (l ++ ys)) (mid-by o p l s h k)
@@ -91,7 +65,7 @@ module _ {A : Type 0} (o : Ops A) (p : Params) (l ys : List A) where
   strobe-first s m e =
       let t = midTaken o p l s in
       let r = both-tests (lacks p t) (there l (t .clock .i)) e in
-      let taken = sym (mid-longer s) ∙ not-again o p (l ++ ys) t (r .0) in
+      let taken = sym (mid-longer s) ∙ sym (mid-not-lacking o p (l ++ ys) t (r .0)) in
       let near = there-longer (t .clock .i) (r .1) in
       let value = value-longer (t .clock .i) (t .clock .mu) (r .1) in
       (rw (taken, r .0, near, value), rw (taken, r .0, near, value))

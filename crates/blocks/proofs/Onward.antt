@@ -19,7 +19,7 @@ use Rattle.timing.proofs.Laws.Strobe.{v-onward, advanced-i}
 use Rattle.timing.proofs.Laws.Clock.{settled-finite, running-more}
 use Rattle.timing.proofs.Laws.Loop.{TrackRunning, valueHere, ready-window, midTaken-running, strobed-running, runs-running}
 use Rattle.timing.proofs.Laws.Run.{ran-all}
-use Rattle.blocks.proofs.Longer.{mid-stays}
+use Rattle.timing.proofs.Laws.Taken.{mid-stays}
 use Rattle.blocks.proofs.Timing.{pending-first}
 
 advanced-onward : (p : Params) (c : Clock) (b : Bool) (n : ℕ) → Running p c b n → (e : Float) → T (finite e) → c .i + 1 ≤ advanced p c e .i

@@ -9,6 +9,7 @@ use lib.Dec.{T, eqb}
 use lib.IntN.{+ℤ-idl}
 use lib.ListN.{length, take, drop, length-append}
 use lib.Ieee.{Float}
+use Rattle.ieee.proofs.Test.{both-tests}
 use Rattle.values.specs.declared.sample.C32.{C32}
 use Rattle.values.specs.declared.error.Refusal.{Refusal}
 use Rattle.values.specs.declared.error.Refusal.the-variants.{Uneven, Odd}
@@ -31,7 +32,6 @@ use Rattle.blocks.specs.Instants.{Instant, later, instants}
 use Rattle.blocks.specs.Timing.{goesOn, together}
 use Rattle.blocks.specs.Receiver.{Waiting, handed, callOn, waitsAfter, Heard, heardOn, joined, silent}
 use Rattle.blocks.proofs.Timing.{ran-together, instants-together, ran-nothing, instants-nothing}
-use Rattle.blocks.proofs.Longer.{both-tests}
 use Rattle.blocks.proofs.Instants.{instants-count}
 use Rattle.blocks.proofs.Carrier.{runs-together}
 

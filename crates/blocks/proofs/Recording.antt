@@ -7,6 +7,7 @@ use native.Mathlib.Omega.{arith}
 use lib.Dec.{eqb}
 use lib.ListN.{length, drop, length-append, length-map}
 use lib.Ieee.{Float}
+use Rattle.ieee.proofs.Test.{both-tests}
 use Rattle.values.specs.declared.sample.C32.{C32}
 use Rattle.values.specs.Samples.{samples}
 use Rattle.values.proofs.Laws.Samples.{samples-append}
@@ -21,7 +22,6 @@ use Rattle.receiver.proofs.Laws.Given.{called-given}
 use Rattle.receiver.proofs.Laws.Sparing.{first-even}
 use Rattle.blocks.specs.Instants.{later}
 use Rattle.blocks.specs.Receiver.{Waiting, start, handed, waitsAfter, Heard, heardOn, joined, silent, recorded, heard, waits, left}
-use Rattle.blocks.proofs.Longer.{both-tests}
 use Rattle.blocks.proofs.TimingCalls.{neither-odd, rest-samples}
 use Rattle.blocks.proofs.Received.{received, received-instants, call-received, refused-silent, refused-waits, silent-first, received-joined, received-nothing}
 

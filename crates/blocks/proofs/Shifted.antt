@@ -22,8 +22,9 @@ use Rattle.timing.specs.Loop.{Track, Strobes, lacks, there, valueAt, withMid, m
 use Rattle.timing.proofs.Laws.Strobe.{advanced-i}
 use Rattle.timing.proofs.Laws.Clock.{settled-finite, kept, running-mid}
 use Rattle.timing.proofs.Laws.Loop.{TrackRunning, valueHere, midTaken-running, strobed-running}
+use Rattle.timing.proofs.Laws.Taken.{mid-by}
 use Rattle.blocks.specs.Instants.{clocks}
-use Rattle.blocks.proofs.Longer.{mid-by, turn, turnClocks}
+use Rattle.blocks.proofs.Longer.{turn, turnClocks}
 
 -- ---- k places on
 abbrev pub clockOn : ℕ → Clock → Clock

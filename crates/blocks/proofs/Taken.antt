@@ -10,7 +10,7 @@ use lib.Dec.{eqb}
 use lib.ListN.{length, drop, length-append, length-drop, drop-of-length-le}
 use lib.Seq.{drop-nil}
 use lib.Ieee.{Float}
-use Rattle.ieee.proofs.Test.{order}
+use Rattle.ieee.proofs.Test.{order, both-tests}
 use Rattle.values.specs.declared.sample.C32.{C32}
 use Rattle.values.specs.Samples.{samples}
 use Rattle.values.proofs.Laws.Samples.{length-samples}
@@ -26,7 +26,6 @@ use Rattle.receiver.proofs.Laws.Given.{called-given}
 use Rattle.receiver.proofs.Laws.Sparing.{first-even, called-sparing}
 use Rattle.receiver.proofs.Laws.Refused.{all-even}
 use Rattle.blocks.specs.Receiver.{Waiting, start, handed, callOn, waitsAfter, Heard, heardOn, recorded, waits, left, TakesAll, Roomy, again, oftenEnough, APlace}
-use Rattle.blocks.proofs.Longer.{both-tests}
 use Rattle.blocks.proofs.Onward.{ran-roomy, ran-nearer}
 use Rattle.blocks.proofs.TimingCalls.{neither-odd, even-not-odd}
 use Rattle.blocks.proofs.Received.{received, call-received}

@@ -19,9 +19,10 @@ use Rattle.timing.specs.Run.{Hist, Sync, Given, line, histAt, Ran, ran}
 use Rattle.timing.proofs.Laws.Clock.{running-pending, running-more}
 use Rattle.timing.proofs.Laws.Loop.{TrackRunning, runs-running}
 use Rattle.timing.proofs.Laws.Run.{ran-given}
+use Rattle.timing.proofs.Laws.Taken.{mid-by}
 use Rattle.blocks.specs.Instants.{clocks, instantOf, later, instants}
 use Rattle.blocks.specs.Timing.{goesOn, together}
-use Rattle.blocks.proofs.Longer.{mid-by, runs-longer}
+use Rattle.blocks.proofs.Longer.{runs-longer}
 use Rattle.blocks.proofs.Shifted.{clockOn, trackOn, mid-on, sample-on, runs-on}
 use Rattle.blocks.proofs.Instants.{instants-on}
 

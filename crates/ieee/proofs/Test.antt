@@ -2,7 +2,7 @@
 use mathlib.Core.Path.{_≡_, refl, sym, subst}
 use mathlib.Core.Logic.{_⊎_, inl, inr}
 use Prim.Native.Nat.{ℕ, _≤_, _<_, compare, Ordering, Ordering·lt, Ordering·eq, Ordering·gt}
-use mathlib.Core.Bool.{Bool, true, false, not, _||_, cond}
+use mathlib.Core.Bool.{Bool, true, false, not, _&&_, _||_, cond}
 use lib.Arith.{lt-of-le-ne}
 use lib.Dec.{T, ltb, eqb, isLe, isEq, ltb→lt, nltb→le, leb→le, nleb→lt, eqb→eq, eqb-refl}
 
@@ -18,6 +18,11 @@ same-test true true p q = refl
 same-test true false p q = absurd (p tt)
 same-test false true p q = absurd (q tt)
 same-test false false p q = refl
+
+-- a test that fails, and one that holds
+pub both-tests : (a b : Bool) → (not a && b) ≡ true → (a ≡ false) × (b ≡ true)
+both-tests false b h = (refl, h)
+both-tests true b h = absurd (yes h)
 
 -- a choice by the same test, between related values
 pub cond-related : {A B : Type 0} (R : A → B → Type 0) {p q : Bool} {x y : A} {v w : B} → p ≡ q → R x v → R y w → R (cond p x y) (cond q v w)

@@ -1,5 +1,5 @@
 -- One output place, over any sample type: the middle is taken or left by two tests, and a strobe is made of its parts. Assumes nothing.
-use mathlib.Core.Path.{_≡_, sym, ap, _∙_}
+use mathlib.Core.Path.{_≡_, refl, sym, ap, _∙_}
 use mathlib.Core.Bool.{Bool, true, false, _&&_, cond}
 use mathlib.Core.List.{List}
 use Prim.Native.Nat.{ℕ, _≤_, _<_}
@@ -15,29 +15,37 @@ use Rattle.timing.specs.Loop.{Track, lacks, there, valueAt, withMid, mid
 use Rattle.timing.specs.Run.{Hist, line}
 use Rattle.timing.proofs.Laws.Line.{there-within}
 
--- ---- the middle, with n samples of input
+-- ---- the middle, as its two tests say
+module _ {A : Type 0} (o : Ops A) (p : Params) (l : List A) (s : Track A) where
+  abbrev pub middle : A
+  middle = valueAt o l (midIndex (s .clock)) (midPart (s .clock))
+
+  pub mid-by : {lack near : Bool} → lacks p s ≡ lack → there l (midIndex (s .clock)) ≡ near → midTaken o p l s ≡ cond (lack && near) (withMid s middle) s
+  unfolding midTaken
+  mid-by h k = λ j. cond (h j && k j) (withMid s middle) s
+
+  pub mid-not-lacking : lacks p s ≡ false → s ≡ midTaken o p l s
+  mid-not-lacking held = sym (mid-by held refl)
+
+  -- it moves nothing
+  pub mid-stays : midTaken o p l s .clock ≡ s .clock
+  unfolding midTaken
+  mid-stays = go (lacks p s && there l (midIndex (s .clock)))
+    where
+      go : (b : Bool) → cond b (withMid s middle) s .clock ≡ s .clock
+      go true = refl
+      go false = refl
+
+-- with n samples of input
 module _ {A : Type 0} (o : Ops A) (p : Params) (h : Hist A) (xs : List A) (n : ℕ) (e : length xs ≡ n) (s : Track A) where
-  abbrev middle : A
-  middle = valueAt o (line h xs) (midIndex (s .clock)) (midPart (s .clock))
-
-  -- the two tests as the definition has them
-  abbrev by : Bool → Bool → Track A
-  by lack near = cond (lack && near) (withMid s middle) s
-
   near-within : there (line h xs) (midIndex (s .clock)) ≡ leb (midIndex (s .clock)) n
   near-within = there-within h xs (midIndex (s .clock)) n e
 
-  pub mid-taken : (m : A) → lacks p s ≡ true → midIndex (s .clock) ≤ n → m ≡ middle → withMid s m ≡ midTaken o p (line h xs) s
-  unfolding midTaken
-  mid-taken m lack within is-m = ap (withMid s) is-m ∙ (λ j. by (sym lack j) (sym (near-within ∙ le-leb _ _ within) j))
+  pub mid-taken : (m : A) → lacks p s ≡ true → midIndex (s .clock) ≤ n → m ≡ middle o p (line h xs) s → withMid s m ≡ midTaken o p (line h xs) s
+  mid-taken m lack within is-m = ap (withMid s) is-m ∙ sym (mid-by o p (line h xs) s lack (near-within ∙ le-leb _ _ within))
 
   pub mid-too-far : lacks p s ≡ true → n < midIndex (s .clock) → s ≡ midTaken o p (line h xs) s
-  unfolding midTaken
-  mid-too-far lack beyond = λ j. by (sym lack j) (sym (near-within ∙ lt-leb _ _ beyond) j)
-
-  pub mid-not-lacking : lacks p s ≡ false → s ≡ midTaken o p (line h xs) s
-  unfolding midTaken
-  mid-not-lacking held = λ j. by (sym held j) (there (line h xs) (midIndex (s .clock)))
+  mid-too-far lack beyond = sym (mid-by o p (line h xs) s lack (near-within ∙ lt-leb _ _ beyond))
 
 -- ---- the strobe y
 pub strobed-parts : {A : Type 0} (o : Ops A) (p : Params) (s : Track A) (y d : A) (x e : Float) (c : Clock) (ready : Bool)

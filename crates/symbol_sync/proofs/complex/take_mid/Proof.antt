@@ -48,7 +48,7 @@ returns-2 c =
 returns-3 : tie.Need-returns-3
 returns-3 c =
     let a = c .before .before .before .args in
-    mid-not-lacking complex (a .p) (hist (a .h)) (samples (a .input .now)) _ (length-samples (a .input .now)) (track (a .s)) (sym (c .before .lacks .ensures) ∙ c .if1 .left)
+    mid-not-lacking complex (a .p) (line (a .h) (a .input .now)) (track (a .s)) (sym (c .before .lacks .ensures) ∙ c .if1 .left)
 
 pub take-mid-spec : {M : Type 1} → statement M
 take-mid-spec =

@@ -46,7 +46,7 @@ returns-2 c =
 returns-3 : tie.Need-returns-3
 returns-3 c =
     let a = c .before .before .before .args in
-    mid-not-lacking real (a .p) (hist (a .h)) (a .input .now) _ refl (track (a .s)) (sym (c .before .lacks .ensures) ∙ c .if1 .left)
+    mid-not-lacking real (a .p) (line (a .h) (a .input .now)) (track (a .s)) (sym (c .before .lacks .ensures) ∙ c .if1 .left)
 
 pub take-mid-spec : {M : Type 1} → statement M
 take-mid-spec =
