@@ -87,6 +87,12 @@ module _ (r : Receiver) (given : Given r) (cs ds : List Call) (same : recorded c
       let m = places cs + places ds in
       one-run cs (start r) m given (omega arith) none ∙ ap (λ (l : List Float). received r (samples l) m) same ∙ sym (one-run ds (start r) m given (omega arith) nothing)
 
+-- the record that the calls give is the one that they leave
+pub heard-receiver : (cs : List Call) (w : Waiting) → heard w cs .receiver ≡ waits w cs .receiver
+unfolding heard waits
+heard-receiver [] w = refl
+heard-receiver (c ∷ cs) w = heard-receiver cs (waitsAfter w c)
+
 -- ---- each symbol has its instant
 pub one-instant-each : (cs : List Call) (w : Waiting) → length (heard w cs .instants) ≡ heard w cs .produced
 unfolding heard

@@ -2,7 +2,7 @@
 use mathlib.Core.Path.{_≡_, refl, sym, ap, _∙_, subst}
 use mathlib.Core.Logic.{_⊎_, inl, inr}
 use mathlib.Core.Bool.{true, not, _&&_}
-use mathlib.Core.List.{List, [], _∷_, _++_, append-nil}
+use mathlib.Core.List.{List, [], _∷_, _++_, append-assoc, append-nil}
 use Prim.Native.Nat.{ℕ, zero, suc, _+_, _-_, _*_, _/_, _%_, _≤_, _<_}
 use native.Mathlib.Omega.{arith}
 use borrow.Author.Tests.{eqb-true}
@@ -28,7 +28,7 @@ use Rattle.receiver.proofs.Laws.Refused.{all-even}
 use Rattle.blocks.specs.Receiver.{Waiting, start, handed, callOn, waitsAfter, Heard, heardOn, recorded, waits, left, TakesAll, Roomy, again, oftenEnough, APlace}
 use Rattle.blocks.proofs.Onward.{ran-roomy, ran-nearer}
 use Rattle.blocks.proofs.TimingCalls.{neither-odd, even-not-odd}
-use Rattle.blocks.proofs.Received.{received, call-received}
+use Rattle.blocks.proofs.Received.{received, call-received, received-nothing}
 use Rattle.blocks.proofs.Recording.{whole-samples}
 
 -- ---- each call takes all that it is handed
@@ -82,7 +82,7 @@ waits-length (c ∷ cs) w =
 
 -- ---- what is left is handed again, with a place or more
 module _ (zs ys : List Float) (lent : APlace zs ys) where
-  abbrev once : Call
+  abbrev pub once : Call
   once = record { input = []; strobes = zs; output = ys }
 
   -- no call on whole samples is refused
@@ -95,7 +95,7 @@ module _ (zs ys : List Float) (lent : APlace zs ys) where
       λ j. not (none j) && b .1 j
 
   -- the samples from the next strobe's place on
-  abbrev ahead : Waiting → ℕ
+  abbrev pub ahead : Waiting → ℕ
   ahead w = length (w .rest) / 2 + 1 - w .receiver .timing .track .clock .i
 
   module _ (w : Waiting) (given : Given (w .receiver)) (even : length (w .rest) % 2 ≡ 0) where
@@ -123,11 +123,11 @@ module _ (zs ys : List Float) (lent : APlace zs ys) where
     left-length : length (waitsAfter w once .rest) ≡ length xs - 2 * t .taken
     left-length = length-drop (2 * callOn w once .consumed) xs ∙ ap (λ (k : ℕ). length xs - 2 * k) taken
 
-    left-even : length (waitsAfter w once .rest) % 2 ≡ 0
+    pub left-even : length (waitsAfter w once .rest) % 2 ≡ 0
     left-even = omega (arith, left-length, xs-even)
 
     -- all is taken, or each place has its strobe
-    nearer : (waitsAfter w once .rest ≡ []) ⊎ (ahead (waitsAfter w once) < ahead w)
+    pub nearer : (waitsAfter w once .rest ≡ []) ⊎ (ahead (waitsAfter w once) < ahead w)
     nearer = go (order (length (t .values)) n)
       where
         go : (length (t .values) < n) ⊎ (n ≤ length (t .values)) → (waitsAfter w once .rest ≡ []) ⊎ (ahead (waitsAfter w once) < ahead w)
@@ -138,6 +138,15 @@ module _ (zs ys : List Float) (lent : APlace zs ys) where
             let i = ap (λ (h : Heard). h .receiver .timing .track .clock .i) call-is in
             let h = ran-nearer complex (sync (w .receiver .timing)) (samples xs) n (given .timing) in
             inr (omega (arith, i, h, full, lent .place, length-samples xs, left-length, same-length))
+
+  -- on nothing a call changes nothing
+  pub idle : (f : ℕ) (r : Receiver) → Given r → waits (start r) (again f zs ys) ≡ start r
+  unfolding waits samples
+  idle zero r given = refl
+  idle (suc f) r given =
+      let same = ap (λ (h : Heard). h .receiver) (call-received (start r) once (fits-whole [] refl) ∙ received-nothing r given (length zs / 2)) in
+      let none = drop-nil (2 * callOn (start r) once .consumed) in
+      ap (λ (w : Waiting). waits w (again f zs ys)) (λ j. record { receiver = same j; rest = none j }) ∙ idle f r given
 
   -- nothing is left of nothing
   stays-taken : (f : ℕ) (w : Waiting) → w .rest ≡ [] → waits w (again f zs ys) .rest ≡ []
@@ -159,17 +168,24 @@ module _ (zs ys : List Float) (lent : APlace zs ys) where
       go (inr less) others = others (omega arith)
 
 -- ---- behind any list of calls
-waits-append : (cs ds : List Call) (w : Waiting) → waits w (cs ++ ds) ≡ waits (waits w cs) ds
+pub waits-append : (cs ds : List Call) (w : Waiting) → waits w (cs ++ ds) ≡ waits (waits w cs) ds
 unfolding waits
 waits-append [] ds w = refl
 waits-append (c ∷ cs) ds w = waits-append cs ds (waitsAfter w c)
 
+pub recorded-append : (cs ds : List Call) → recorded (cs ++ ds) ≡ recorded cs ++ recorded ds
+unfolding recorded
+recorded-append [] ds = refl
+recorded-append (c ∷ cs) ds = ap (λ (l : List Float). c .input ++ l) (recorded-append cs ds) ∙ sym (append-assoc (c .input) (recorded cs) (recorded ds))
+
+pub again-records : (n : ℕ) (zs ys : List Float) → recorded (again n zs ys) ≡ []
+unfolding recorded
+again-records zero zs ys = refl
+again-records (suc n) zs ys = again-records n zs ys
+
 -- the recording is the same
 pub recorded-again : (cs : List Call) (n : ℕ) (zs ys : List Float) → recorded (cs ++ again n zs ys) ≡ recorded cs
-unfolding recorded
-recorded-again [] zero zs ys = refl
-recorded-again [] (suc n) zs ys = recorded-again [] n zs ys
-recorded-again (c ∷ cs) n zs ys = ap (λ (l : List Float). c .input ++ l) (recorded-again cs n zs ys)
+recorded-again cs n zs ys = recorded-append cs (again n zs ys) ∙ ap (λ (l : List Float). recorded cs ++ l) (again-records n zs ys) ∙ append-nil (recorded cs)
 
 -- a recording of whole samples is taken, whatever places its calls have, if what they leave is handed again as often as it has samples and once more
 pub again-left : (r : Receiver) (cs : List Call) (zs ys : List Float) → Given r → APlace zs ys → length (recorded cs) % 2 ≡ 0 → left r (cs ++ again (oftenEnough cs) zs ys) ≡ []

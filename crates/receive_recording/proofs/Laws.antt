@@ -2,3 +2,4 @@
 pub mod Block
 pub mod Defaults
 pub mod Accepted
+pub mod Whole

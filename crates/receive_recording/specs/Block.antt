@@ -1,8 +1,9 @@
 -- A block of the recording, received call by call. Definitions only.
-use Prim.Native.Nat.{ℕ, zero, suc, _*_, _/_}
-use mathlib.Core.Bool.{Bool, _||_, cond}
-use mathlib.Core.List.{List}
-use lib.Dec.{eqb, leb}
+use mathlib.Core.Path.{_≡_}
+use Prim.Native.Nat.{ℕ, zero, suc, _*_, _/_, _%_}
+use mathlib.Core.Bool.{Bool, true, _||_, cond}
+use mathlib.Core.List.{List, [], _∷_, _++_}
+use lib.Dec.{T, eqb, leb}
 use lib.ListN.{length, drop, replicate}
 use lib.Ieee.{Float}
 use Rattle.ieee.specs.Constants.{zero₀}
@@ -29,3 +30,18 @@ final xs o = eqb (o .produced) 0 || leb (length xs / 2) (o .consumed)
 unfoldable pub received : ℕ → Receiver → List Float → Received
 received zero r xs = record { receiver = r; number = 0 }
 received (suc n) r xs = let o = callOn r xs in cond (final xs o) (record { receiver = o .receiver; number = o .number }) (received n (o .receiver) (drop (2 * o .consumed) xs))
+
+-- ---- a recording, received block by block
+unfoldable pub receivedAll : Receiver → List (List Float) → Receiver
+receivedAll r [] = r
+receivedAll r (b ∷ bs) = receivedAll (received (length b) r b .receiver) bs
+
+-- the blocks one after the other
+unfoldable pub whole : List (List Float) → List Float
+whole [] = []
+whole (b ∷ bs) = b ++ whole bs
+
+-- no block ends inside a sample
+unfoldable pub Even : List (List Float) → Type 0
+Even [] = T true
+Even (b ∷ bs) = (length b % 2 ≡ 0) × Even bs

@@ -10,7 +10,7 @@ use Rattle.receiver.specs.declared.record.Receiver.{Receiver}
 use Rattle.receiver.proofs.Laws.Refused.{all-even, called-number}
 use Rattle.receive_recording.specs.Block.{places, callOn, final, received}
 
-call-accepted : (r : Receiver) (xs : List Float) → length xs % 2 ≡ 0 → callOn r xs .number ≡ 0
+pub call-accepted : (r : Receiver) (xs : List Float) → length xs % 2 ≡ 0 → callOn r xs .number ≡ 0
 call-accepted r xs even = called-number r xs places places ∙ ap (λ (b : Bool). cond b 8 0) (all-even xs places places (λ e. omega arith) (λ e. omega arith) (λ e. omega arith))
 
 pub block-accepted : (n : ℕ) (r : Receiver) (xs : List Float) → length xs % 2 ≡ 0 → received n r xs .number ≡ 0
