@@ -1,0 +1,40 @@
+// A recording with damaged samples.
+ghost use mathlib.Core.Path.{_≡_};
+ghost use Rattle.blocks_replay.specs.Damage.{replacement, damagedAt, damagedFrom};
+
+// What takes the place of an f32 that is damaged.
+fn damaged(kind: usize) -> f32
+    ensures { λ r. ⌜ r ≡ replacement kind ⌝ }
+{
+    match kind {
+        // NaN.
+        0 => replay::f32_of(0x7fc00000),
+        // The infinities.
+        1 => replay::f32_of(0x7f800000),
+        2 => replay::f32_of(0xff800000),
+        // The smallest subnormal.
+        3 => replay::f32_of(1),
+        // -0.0.
+        4 => replay::f32_of(0x80000000),
+        // The largest number.
+        _ => replay::f32_of(0x7f7fffff),
+    }
+}
+
+// The f32 number i of the recording, x before. One in 97 is damaged: now a real part, now an imaginary
+// one.
+fn damaged_at(i: usize, x: f32) -> f32
+    ensures { λ r. ⌜ r ≡ damagedAt i x ⌝ }
+{
+    if i % 97 == 96 { damaged(i / 97 % 6) } else { x }
+}
+
+pub(crate) fn damage(samples: &mut [f32])
+    ensures { λ _. ⌜ now (samples .exit) ≡ damagedFrom 0 (now (samples .entry)) ⌝ }
+{
+    let mut i = 0;
+    while i < samples.len() {
+        samples[i] = damaged_at(i, samples[i]);
+        i += 1;
+    }
+}
