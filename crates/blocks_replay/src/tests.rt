@@ -1,10 +1,10 @@
 // Joining tests, and small values compared.
 use carrier::CostasConstellation;
 use replay_states::constellation_code;
+use replay_states::detector_code;
 use timing::Ted;
 ghost use mathlib.Core.Path.{_≡_};
 ghost use mathlib.Core.Bool.{_&&_};
-ghost use Rattle.replay_states.specs.Codes.{codeOfDetector};
 ghost use Rattle.blocks_replay.specs.Fields.{sameFlag, sameDetector, sameConstellation};
 
 pub(crate) fn both(a: bool, b: bool) -> bool
@@ -23,15 +23,6 @@ pub(crate) fn same_flag(a: bool, b: bool) -> bool
     ensures { λ r. ⌜ r ≡ sameFlag a b ⌝ }
 {
     if a { b } else { !b }
-}
-
-fn detector_code(ted: Ted) -> u64
-    ensures { λ r. ⌜ r ≡ codeOfDetector ted ⌝ }
-{
-    match ted {
-        Ted::Gardner => 0,
-        Ted::MuellerMuller => 1,
-    }
 }
 
 pub(crate) fn same_detector(a: Ted, b: Ted) -> bool

@@ -3,13 +3,13 @@
 // there are, the pace, and whether the carrier is locked. A refusal is written as its number on error
 // output, and so is an input that ends inside a sample.
 mod block;
-mod defaults;
 mod report;
 
 use carrier::CostasConstellation;
 use libc::STDIN_FILENO;
 use receiver::Receiver;
 use receiver::SetUp;
+use timing::Ted;
 ghost use Rattle.receiver.specs.Record.{Given};
 
 // A proved loop has to end, and nothing says that the input does. So many blocks are read at most:
@@ -22,8 +22,8 @@ const SAMPLE: usize = 8;
 fn main() {
     let answer = receiver::set_up(
         CostasConstellation::Qpsk,
-        defaults::timing(),
-        defaults::carrier(),
+        recordings::timing_defaults(Ted::Gardner),
+        recordings::carrier_defaults(),
     );
     match answer {
         SetUp::Ready(r) => receive(r),

@@ -2,3 +2,4 @@ pub mod Bytes
 pub mod Samples
 pub mod Text
 pub mod Thousandths
+pub mod Defaults

@@ -1,13 +1,17 @@
 // Recordings as bytes and symbols as text: complex f32 samples from little-endian bytes and back, the
-// digits of symbols, laid out in lines, and a number in thousandths. Nothing here requires anything.
+// digits of symbols, laid out in lines, and a number in thousandths; and what a receiver of the sample
+// recording is set up with. Nothing here requires anything.
 mod bytes;
 mod decimals;
+mod defaults;
 mod digits;
 mod lines;
 mod samples;
 
 pub use bytes::little_endian;
 pub use decimals::thousandths;
+pub use defaults::carrier_defaults;
+pub use defaults::timing_defaults;
 pub use digits::write_digits;
 pub use lines::WIDTH;
 pub use lines::write_lines;

@@ -5,7 +5,7 @@ ghost use mathlib.Core.Path.{_≡_};
 ghost use Rattle.replay_states.specs.Codes.{codeOfDetector, detectorOf, codeOf, constellationOf};
 
 // The number of a detector.
-pub(crate) fn detector_code(ted: Ted) -> u64
+pub fn detector_code(ted: Ted) -> u64
     ensures { λ r. ⌜ r ≡ codeOfDetector ted ⌝ }
 {
     match ted {

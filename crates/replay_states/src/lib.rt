@@ -13,6 +13,7 @@ pub use carrier_fields::oscillator_agrees;
 pub use carrier_fields::values_agree;
 pub use codes::constellation_code;
 pub use codes::constellation_of;
+pub use codes::detector_code;
 pub use codes::detector_of;
 pub use timing_fields::clock_agrees;
 pub use timing_fields::complex_agrees;

@@ -4,11 +4,11 @@ use Rattle.receiver.specs.Record.{SetUpGiven}
 use Rattle.receive_recording.proofs.main.Statement.{statement}
 use Rattle.receive_recording.proofs.main.Tie as tie
 
-timing-requires : tie.Need-timing-requires
-timing-requires c κs = tt
+timing-defaults-requires : tie.Need-timing-defaults-requires
+timing-defaults-requires c κs = tt
 
-carrier-requires : tie.Need-carrier-requires
-carrier-requires c κs = tt
+carrier-defaults-requires : tie.Need-carrier-defaults-requires
+carrier-defaults-requires c κs = tt
 
 set-up-requires : tie.Need-set-up-requires
 set-up-requires c κs = tt
@@ -38,8 +38,8 @@ pub main-spec : {M : Type 1} → statement M
 main-spec =
     tie.close
     (tie.spec
-    timing-requires
-    carrier-requires
+    timing-defaults-requires
+    carrier-defaults-requires
     set-up-requires
     enum-known-answer
     receive-requires

@@ -1,7 +1,7 @@
 -- `blocks_replay::set_ups::set_up` meets its contract, value by value. Assumes nothing.
 use mathlib.Core.Path.{ap, _∙_}
 use Rattle.receiver.specs.Record.{opened}
-use Rattle.blocks_replay.specs.SetUps.{timingValues}
+use Rattle.recordings.specs.Defaults.{timingDefaults}
 use borrow.Author.Needs.{needs}
 use Rattle.blocks_replay.proofs.set_ups.set_up.Statement.{statement}
 use Rattle.blocks_replay.proofs.set_ups.set_up.Tie as tie
@@ -12,18 +12,18 @@ constellation-of-requires c κs = search needs
 detector-of-requires : tie.Need-detector-of-requires
 detector-of-requires c κs = search needs
 
-timing-requires : tie.Need-timing-requires
-timing-requires c κs = search needs
+timing-defaults-requires : tie.Need-timing-defaults-requires
+timing-defaults-requires c κs = search needs
 
-carrier-requires : tie.Need-carrier-requires
-carrier-requires c κs = search needs
+carrier-defaults-requires : tie.Need-carrier-defaults-requires
+carrier-defaults-requires c κs = search needs
 
 set-up-requires : tie.Need-set-up-requires
 set-up-requires c κs = search needs
 
 returns : tie.Need-returns
 returns c = (
-  c .set-up .ensures .0 ∙ (λ j. opened (c .before .before .before .before .constellation-of .ensures j) ((c .before .before .timing .ensures ∙ ap timingValues (c .before .before .before .detector-of .ensures)) j) (c .before .carrier .ensures j)),
+  c .set-up .ensures .0 ∙ (λ j. opened (c .before .before .before .before .constellation-of .ensures j) ((c .before .before .timing-defaults .ensures ∙ ap timingDefaults (c .before .before .before .detector-of .ensures)) j) (c .before .carrier-defaults .ensures j)),
   c .set-up .ensures .1,
 )
 
@@ -33,7 +33,7 @@ set-up-spec =
     (tie.spec
     constellation-of-requires
     detector-of-requires
-    timing-requires
-    carrier-requires
+    timing-defaults-requires
+    carrier-defaults-requires
     set-up-requires
     returns)

@@ -1,9 +1,9 @@
-// What the receiver is set up with.
+// What a receiver is set up with that receives the sample recording.
 use receiver::CarrierValues;
 use receiver::TimingValues;
 use timing::Ted;
 ghost use mathlib.Core.Path.{_≡_};
-ghost use Rattle.receive_recording.specs.Defaults.{timingDefaults, carrierDefaults};
+ghost use Rattle.recordings.specs.Defaults.{timingDefaults, carrierDefaults};
 
 // ---- Timing
 
@@ -32,12 +32,12 @@ const CARRIER_DAMPING: f64 = 1.0;
 // The largest carrier offset, in cycles per symbol.
 const OFFSET: f64 = 0.05;
 
-pub(crate) fn timing() -> TimingValues
-    ensures { λ r. ⌜ r ≡ timingDefaults ⌝ }
+pub fn timing_defaults(ted: Ted) -> TimingValues
+    ensures { λ r. ⌜ r ≡ timingDefaults ted ⌝ }
 {
     TimingValues {
         sps: SPS,
-        ted: Ted::Gardner,
+        ted: ted,
         loop_bw: TIMING_BANDWIDTH,
         damping: TIMING_DAMPING,
         max_deviation: DEVIATION,
@@ -45,7 +45,7 @@ pub(crate) fn timing() -> TimingValues
     }
 }
 
-pub(crate) fn carrier() -> CarrierValues
+pub fn carrier_defaults() -> CarrierValues
     ensures { λ r. ⌜ r ≡ carrierDefaults ⌝ }
 {
     CarrierValues {
