@@ -13,6 +13,7 @@ include!(concat!(env!("OUT_DIR"), "/original.rs"));
 mod bits;
 mod carrier_runs;
 mod compare;
+mod cuts;
 mod fields;
 mod floats;
 mod lines;
@@ -39,6 +40,7 @@ pub struct Reference;
 const USAGE: &str = "\
 usage: oracle play [--reference] SCRIPT   plays a script ('-' reads standard input)
        oracle compare [--seed S] [--symbols N]
+       oracle cuts [--seed S] [--symbols N]
        oracle numbers                     writes the recorded answers of the number operations
        oracle oscillator                  writes those of the oscillator and the phase steps
        oracle runs                        writes those of the timing loop
@@ -72,7 +74,8 @@ fn main() -> ExitCode {
     let done = match words[..] {
         ["play", script] => play_file(Fallback, script),
         ["play", "--reference", script] => play_file(Reference, script),
-        ["compare", ref options @ ..] => compare_as_asked(options),
+        ["compare", ref options @ ..] => as_asked(options, compare::compare),
+        ["cuts", ref options @ ..] => as_asked(options, cuts::cuts),
         ["numbers"] => write_out(&numbers::recorded()),
         ["oscillator"] => write_out(&oscillator::recorded()),
         ["runs"] => write_out(&runs::recorded()),
@@ -116,8 +119,8 @@ fn play_file<K: play::Kernel>(kernel: K, script: &str) -> Result<ExitCode, Strin
     end.map(|()| ExitCode::SUCCESS)
 }
 
-/// `--seed` and `--symbols` in any order.
-fn compare_as_asked(options: &[&str]) -> Result<ExitCode, String> {
+/// A comparison, with `--seed` and `--symbols` in any order.
+fn as_asked(options: &[&str], make: fn(u64, u64) -> compare::Report) -> Result<ExitCode, String> {
     let (mut seed, mut symbols) = (compare::SEED, compare::SYMBOLS);
     for option in options.chunks(2) {
         let [name, value] = option else {
@@ -130,7 +133,7 @@ fn compare_as_asked(options: &[&str]) -> Result<ExitCode, String> {
             _ => return Err(USAGE.to_string()),
         }
     }
-    tell(&compare::compare(seed, symbols))
+    tell(&make(seed, symbols))
 }
 
 /// Writes a report; the status says whether it is clean.
