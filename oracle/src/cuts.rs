@@ -194,4 +194,47 @@ mod tests {
         compare(&mut tally, &a, &b);
         assert!(!tally.clean());
     }
+
+    /// What so many calls on a block leave, each with places for `room` f32 and handed what is left.
+    fn left(mut receiver: Receiver, block: &[f32], calls: usize, room: usize) -> usize {
+        let mut rest = block.to_vec();
+        for _ in 0..calls {
+            let (mut zs, mut ys) = (vec![0.0; room], vec![0.0; room]);
+            let answer = receiver.run(&Fallback, &rest, &mut zs, &mut ys);
+            rest.drain(..2 * answer.consumed);
+        }
+        rest.len()
+    }
+
+    /// One place more than there are samples takes all, and so does one place in one call more. One fewer
+    /// is not always enough.
+    #[test]
+    fn one_more_than_the_samples_is_enough_and_as_many_are_not() {
+        let mut random = Random::new(11);
+        let (mut places, mut calls) = (0, 0);
+        while places == 0 || calls == 0 {
+            let mut timing = timing::values(&mut random, Ted::Gardner);
+            (timing.sps, timing.deviation, timing.gain) = (2.0, 0.05, 0.01);
+            let carrier = carrier::values(&mut random, CostasConstellation::Qpsk);
+            let Ok(fresh) = Receiver::new(Values::named(timing, carrier)) else {
+                continue;
+            };
+            let mut signal = Signal::new(&mut random, 2.0);
+            let before = flat(&signal.block::<C32>(&mut random, 12));
+            let few = 1 + random.up_to(5);
+            let mut receiver = fresh;
+            receiver.run(
+                &Fallback,
+                &before,
+                &mut vec![0.0; 2 * few],
+                &mut vec![0.0; 2 * few],
+            );
+            let n = 1 + random.up_to(2);
+            let block = flat(&signal.block::<C32>(&mut random, n));
+            assert_eq!(left(receiver, &block, 1, 2 * (n + 1)), 0);
+            assert_eq!(left(receiver, &block, n + 1, 2), 0);
+            places += left(receiver, &block, 1, 2 * n);
+            calls += left(receiver, &block, n, 2);
+        }
+    }
 }
