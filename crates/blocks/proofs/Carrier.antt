@@ -1,20 +1,16 @@
 -- A run of the carrier on xs and then one on ys are one run on xs followed by ys, from any state; and so are two calls that are not refused. Assumes nothing.
 use mathlib.Core.Path.{_≡_, refl, sym, ap, _∙_}
-use mathlib.Core.Bool.{true, false}
+use mathlib.Core.Bool.{true}
 use mathlib.Core.List.{List, [], _∷_, _++_}
 use Prim.Native.Nat.{_%_}
 use native.Mathlib.Omega.{arith}
-use borrow.Author.Tests.{eqb-true}
-use lib.Dec.{eqb}
 use lib.ListN.{length, length-append}
 use lib.Ieee.{Float}
-use Rattle.ieee.proofs.Test.{both-tests}
 use Rattle.values.specs.declared.sample.C32.{C32}
 use Rattle.values.specs.Samples.{samples, parts}
 use Rattle.values.proofs.Laws.Samples.{samples-append}
-use Rattle.timing.specs.Run.{oddEither}
-use Rattle.timing.proofs.Laws.Run.{both-even}
-use Rattle.timing.proofs.Laws.Shown.{twofold}
+use Rattle.timing.proofs.Laws.Run.{both-even, even-both}
+use Rattle.timing.proofs.Laws.Shown.{twofold, slice-append}
 use Rattle.cosine.specs.Table.{cosList}
 use Rattle.carrier.specs.declared.constellation.CostasConstellation.{CostasConstellation}
 use Rattle.carrier.specs.declared.params.Params.{Params}
@@ -22,9 +18,8 @@ use Rattle.carrier.specs.declared.symbol.Track.{Track}
 use Rattle.carrier.specs.declared.state.CostasState.{CostasState}
 use Rattle.carrier.specs.Step.{Symbols, stepped, outputOf, runs}
 use Rattle.carrier.specs.Run.{Outcome, done, called, accepts}
-use Rattle.carrier.proofs.Laws.Refused.{called-done}
+use Rattle.carrier.proofs.Laws.Refused.{called-done, accepted-parts}
 use Rattle.blocks.specs.Carrier.{symbolsTogether, callTogether}
-use Rattle.blocks.proofs.TimingCalls.{slice-append, neither-odd, even-not-odd}
 
 pub runs-together : (table : List Float) (c : CostasConstellation) (p : Params) (t : Track) (xs ys : List C32) → let q = runs table c p t xs in symbolsTogether q (runs table c p (q .last) ys) ≡ runs table c p t (xs ++ ys)
 unfolding runs
@@ -43,20 +38,15 @@ done-together s xs ys even =
     (λ j. record { number = 0; state = record { constellation = s .constellation; params = s .params; track = run (first .last) (samples ys) .last }; output = output j })
     ∙ ap (λ (r : Symbols). record { number = 0; state = record { constellation = s .constellation; params = s .params; track = r .last }; output = parts (r .values) }) e
 
--- what a call that is not refused has
-accepted : (xs zs : List Float) → accepts xs zs ≡ true → (oddEither xs zs ≡ false) × (length xs ≡ length zs)
-accepted xs zs h = let b = both-tests (oddEither xs zs) (eqb (length xs) (length zs)) h in (b .0, eqb-true (length xs) (length zs) (b .1))
-
 pub called-together : (s : CostasState) (xs zs ys ws : List Float) → accepts xs zs ≡ true → accepts ys ws ≡ true → let q = called s xs zs in callTogether q (called (q .state) ys ws) ≡ called s (xs ++ ys) (zs ++ ws)
 called-together s xs zs ys ws h k =
-    let a = accepted xs zs h in
-    let b = accepted ys ws k in
-    let even = neither-odd (length xs) (length zs) (a .0) in
-    let evens = neither-odd (length ys) (length ws) (b .0) in
+    let a = accepted-parts xs zs h in
+    let b = accepted-parts ys ws k in
+    let even = even-both xs zs (a .0) in
+    let evens = even-both ys ws (b .0) in
     let both : length (xs ++ ys) ≡ length (zs ++ ws) = omega (arith, length-append xs ys, length-append zs ws, a .1, b .1) in
-    let n = even-not-odd (length (xs ++ ys)) (omega (arith, length-append xs ys, even .0, evens .0)) in
-    let m = even-not-odd (length (zs ++ ws)) (omega (arith, length-append zs ws, even .1, evens .1)) in
+    let whole = both-even (xs ++ ys) (zs ++ ws) (λ o. omega (arith, length-append xs ys, even .0, evens .0)) (λ o. omega (arith, length-append zs ws, even .1, evens .1)) in
     ap (λ (q : Outcome). callTogether q (called (q .state) ys ws)) (called-done s xs zs (a .0) (a .1))
     ∙ ap (callTogether (done s xs)) (called-done (done s xs .state) ys ws (b .0) (b .1))
     ∙ done-together s xs ys (even .0)
-    ∙ sym (called-done s (xs ++ ys) (zs ++ ws) (both-even (xs ++ ys) (zs ++ ws) n m) both)
+    ∙ sym (called-done s (xs ++ ys) (zs ++ ws) whole both)

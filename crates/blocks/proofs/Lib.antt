@@ -2,6 +2,7 @@ pub mod Longer
 pub mod Shifted
 pub mod Instants
 pub mod Timing
+pub mod Nothing
 pub mod TimingCalls
 pub mod Onward
 pub mod Carrier

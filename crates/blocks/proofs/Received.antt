@@ -1,18 +1,13 @@
--- The receiver over a list of samples, as one run: a call that is not refused is such a run, two in a row are one, and a run on nothing changes nothing. Assumes nothing.
-use mathlib.Core.Path.{_≡_, refl, sym, ap, ap₂, _∙_, subst}
-use mathlib.Core.Bool.{Bool, true, false, not, _&&_, cond}
+-- The receiver over a list of samples, as one run: an accepted call is such a run and a refused one is silent; two runs in a row are one, and one on nothing changes nothing. Assumes nothing.
+use mathlib.Core.Path.{_≡_, refl, sym, ap, ap₂, _∙_}
+use mathlib.Core.Bool.{true, false, cond}
 use mathlib.Core.List.{List, [], _∷_, _++_, map}
 use Prim.Native.Nat.{ℕ, _+_, _-_, _*_, _/_, _≤_}
 use native.Mathlib.Nat.{zero-add}
-use borrow.Author.Tests.{eqb-true, eqb-false}
-use lib.Dec.{T, eqb}
 use lib.IntN.{+ℤ-idl}
 use lib.ListN.{length, take, drop, length-append}
-use lib.Ieee.{Float}
-use Rattle.ieee.proofs.Test.{both-tests}
 use Rattle.values.specs.declared.sample.C32.{C32}
 use Rattle.values.specs.declared.error.Refusal.{Refusal}
-use Rattle.values.specs.declared.error.Refusal.the-variants.{Uneven, Odd}
 use Rattle.values.specs.Samples.{samples, parts}
 use Rattle.values.proofs.Laws.Samples.{samples-take}
 use Rattle.timing.specs.Sample.{complex}
@@ -24,14 +19,15 @@ use Rattle.carrier.specs.Step.{Symbols, runs}
 use Rattle.carrier.proofs.Laws.Count.{runs-count}
 use Rattle.receiver.specs.declared.record.Receiver.{Receiver}
 use Rattle.receiver.specs.Record.{Given}
-use Rattle.receiver.specs.Call.{held, turnedAway, done, oddAny, called, accepts}
+use Rattle.receiver.specs.Call.{held, turnedAway, done, accepts}
 use Rattle.receiver.specs.Calls.{Call, strobesOf, outputsOf}
-use Rattle.receiver.proofs.Laws.Refused.{called-odd, called-uneven, called-done}
+use Rattle.receiver.proofs.Laws.Refused.{accepted-done, refused-by}
 use Rattle.receiver.proofs.Laws.Count.{held-none, held-twice}
 use Rattle.blocks.specs.Instants.{Instant, later, instants}
 use Rattle.blocks.specs.Timing.{goesOn, together}
 use Rattle.blocks.specs.Receiver.{Waiting, handed, callOn, waitsAfter, Heard, heardOn, joined, silent}
-use Rattle.blocks.proofs.Timing.{ran-together, instants-together, ran-nothing, instants-nothing}
+use Rattle.blocks.proofs.Timing.{ran-together, instants-together}
+use Rattle.blocks.proofs.Nothing.{ran-nothing, instants-nothing}
 use Rattle.blocks.proofs.Instants.{instants-count}
 use Rattle.blocks.proofs.Carrier.{runs-together}
 
@@ -92,20 +88,11 @@ module _ (w : Waiting) (c : Call) where
 
   pub call-received : accepts (handed w c) (c .strobes) (c .output) ≡ true → heardOn w c ≡ received r (samples (handed w c)) (length (c .strobes) / 2)
   call-received h =
-      let b = both-tests (oddAny (handed w c) (c .strobes) (c .output)) (eqb (length (c .strobes)) (length (c .output))) h in
-      let e = called-done r (handed w c) (c .strobes) (c .output) (b .0) (eqb-true (length (c .strobes)) (length (c .output)) (b .1)) in
+      let e = accepted-done r (handed w c) (c .strobes) (c .output) h in
       let is = instants complex (sync (r .timing)) (samples (handed w c)) (length (c .strobes) / 2) in
       (λ j. record { strobes = strobesOf (e j); outputs = outputsOf (e j); instants = cond (h j) is []; consumed = e j .consumed; produced = e j .produced; receiver = e j .receiver }) ∙ done-received
 
 -- ---- a call that is refused is silent
-refused-by : (r : Receiver) (xs zs ys : List Float) → accepts xs zs ys ≡ false → (n : Refusal) × (called r xs zs ys ≡ turnedAway n r zs ys)
-refused-by r xs zs ys = go (oddAny xs zs ys) (eqb (length zs) (length ys)) refl refl
-  where
-    go : (o e : Bool) → oddAny xs zs ys ≡ o → eqb (length zs) (length ys) ≡ e → (not o && e) ≡ false → (n : Refusal) × (called r xs zs ys ≡ turnedAway n r zs ys)
-    go true e h k f = (Odd, called-odd r xs zs ys h)
-    go false true h k f = absurd (subst T f tt)
-    go false false h k f = (Uneven, called-uneven r xs zs ys h (eqb-false (length zs) (length ys) k))
-
 module _ (w : Waiting) (c : Call) (h : accepts (handed w c) (c .strobes) (c .output) ≡ false) where
   abbrev refusal : (n : Refusal) × (callOn w c ≡ turnedAway n (w .receiver) (c .strobes) (c .output))
   refusal = refused-by (w .receiver) (handed w c) (c .strobes) (c .output) h

@@ -2,37 +2,30 @@
 use mathlib.Core.Path.{_≡_, refl, sym, ap, ap₂, _∙_, subst}
 use mathlib.Core.Bool.{Bool, true, false}
 use mathlib.Core.List.{List, [], _∷_, _++_, map, append-assoc, append-nil}
-use Prim.Native.Nat.{ℕ, _+_, _-_, _/_, _%_, _≤_}
+use Prim.Native.Nat.{ℕ, _+_, _-_, _/_, _≤_}
 use native.Mathlib.Omega.{arith}
-use lib.Dec.{eqb}
 use lib.ListN.{length, drop, length-append, length-map}
 use lib.Ieee.{Float}
-use Rattle.ieee.proofs.Test.{both-tests}
 use Rattle.values.specs.declared.sample.C32.{C32}
 use Rattle.values.specs.Samples.{samples}
-use Rattle.values.proofs.Laws.Samples.{samples-append}
+use Rattle.values.proofs.Laws.Samples.{samples-append, samples-rest}
 use Rattle.timing.specs.Sample.{complex}
 use Rattle.timing.proofs.Laws.Run.{ran-produced}
 use Rattle.symbol_sync.specs.Complex.{sync}
 use Rattle.receiver.specs.declared.record.Receiver.{Receiver}
 use Rattle.receiver.specs.Record.{Given}
-use Rattle.receiver.specs.Call.{accepts, oddAny}
+use Rattle.receiver.specs.Call.{accepts}
 use Rattle.receiver.specs.Calls.{Call}
 use Rattle.receiver.proofs.Laws.Given.{called-given}
-use Rattle.receiver.proofs.Laws.Sparing.{first-even}
+use Rattle.receiver.proofs.Laws.Refused.{accepted-whole}
 use Rattle.blocks.specs.Instants.{later}
 use Rattle.blocks.specs.Receiver.{Waiting, start, handed, waitsAfter, Heard, heardOn, joined, silent, recorded, heard, waits, left}
-use Rattle.blocks.proofs.TimingCalls.{neither-odd, rest-samples}
 use Rattle.blocks.proofs.Received.{received, received-instants, call-received, refused-silent, refused-waits, silent-first, received-joined, received-nothing}
 
 -- the places of all calls
 unfoldable places : List Call → ℕ
 places [] = 0
 places (c ∷ cs) = length (c .strobes) / 2 + places cs
-
--- a call that is not refused is handed whole samples
-pub whole-samples : (xs zs ys : List Float) → accepts xs zs ys ≡ true → length xs % 2 ≡ 0
-whole-samples xs zs ys h = neither-odd (length xs) (length zs) (first-even _ _ (both-tests (oddAny xs zs ys) (eqb (length zs) (length ys)) h .0)) .0
 
 -- ---- any cut is one run over the recording, with as many places as its calls have or more
 -- what is to be shown of the calls cs, after w
@@ -52,10 +45,10 @@ module _ (w : Waiting) (c : Call) (cs : List Call) (m : ℕ) (given : Given (w .
       let n = length (c .strobes) / 2 in
       let q = heardOn w c in
       let e = call-received w c h in
-      let even = whole-samples xs (c .strobes) (c .output) h in
+      let even = accepted-whole xs (c .strobes) (c .output) h .0 in
       let few : q .produced ≤ n = subst (λ (p : Heard). p .produced ≤ n) (sym e) (ran-produced complex (sync (w .receiver .timing)) (samples xs) n) in
       ap (joined q) (others (waitsAfter w c) (m - q .produced) (called-given (w .receiver) xs (c .strobes) (c .output) given) (omega arith) none)
-      ∙ ap (λ (l : List C32). joined q (received (q .receiver) l (m - q .produced))) (rest-samples (q .consumed) xs (recorded cs) even)
+      ∙ ap (λ (l : List C32). joined q (received (q .receiver) l (m - q .produced))) (samples-rest (q .consumed) xs (recorded cs) even)
       ∙ ap (λ (p : Heard). joined p (received (p .receiver) (drop (p .consumed) (samples xs) ++ samples (recorded cs)) (m - p .produced))) e
       ∙ received-joined (w .receiver) given (samples xs) (samples (recorded cs)) n m (omega arith)
       ∙ ap after (sym (samples-append xs (recorded cs) even))

@@ -66,7 +66,7 @@ module _ {A : Type 0} (o : Ops A) (p : Params) (l : List A) (k n : ℕ) (long : 
   unfolding valueAt
   value-on i mu h =
       let a = sample-on l k (o .zero) (i + k - 1) (i - 1) (omega arith) in
-      let b = sample-on l k (o .zero) (i + k) (i) (omega arith) in
+      let b = sample-on l k (o .zero) (i + k) i (omega arith) in
       let c = sample-on l k (o .zero) (i + k + 1) (i + 1) (omega arith) in
       let d = sample-on l k (o .zero) (i + k + 2) (i + 2) (omega arith) in
       λ j. o .interp (a j) (b j) (c j) (d j) (narrowed mu)

@@ -23,13 +23,11 @@ use Rattle.receiver.specs.Record.{Given}
 use Rattle.receiver.specs.Call.{accepts, oddAny}
 use Rattle.receiver.specs.Calls.{Call}
 use Rattle.receiver.proofs.Laws.Given.{called-given}
-use Rattle.receiver.proofs.Laws.Sparing.{first-even, called-sparing}
-use Rattle.receiver.proofs.Laws.Refused.{all-even}
+use Rattle.receiver.proofs.Laws.Sparing.{called-sparing}
+use Rattle.receiver.proofs.Laws.Refused.{all-even, accepted-whole}
 use Rattle.blocks.specs.Receiver.{Waiting, start, handed, callOn, waitsAfter, Heard, heardOn, recorded, waits, left, TakesAll, Roomy, again, oftenEnough, APlace}
 use Rattle.blocks.proofs.Onward.{ran-roomy, ran-nearer}
-use Rattle.blocks.proofs.TimingCalls.{neither-odd, even-not-odd}
 use Rattle.blocks.proofs.Received.{received, call-received, received-nothing}
-use Rattle.blocks.proofs.Recording.{whole-samples}
 
 -- ---- each call takes all that it is handed
 pub takes-left : (cs : List Call) (w : Waiting) → w .rest ≡ [] → TakesAll w cs → waits w cs .rest ≡ []
@@ -44,7 +42,7 @@ roomy-consumes r c given fits room =
     let xs = samples (c .input) in
     let n = length (c .strobes) / 2 in
     let taken = ap (λ (h : Heard). h .consumed) (call-received (start r) c fits) ∙ ran-roomy complex s xs n (given .timing) (omega (arith, length-samples (c .input))) in
-    omega (arith, taken, length-samples (c .input), whole-samples (c .input) (c .strobes) (c .output) fits)
+    omega (arith, taken, length-samples (c .input), accepted-whole (c .input) (c .strobes) (c .output) fits .0)
 
 pub roomy-takes : (cs : List Call) (r : Receiver) → Given r → Roomy cs → TakesAll (start r) cs
 unfolding TakesAll Roomy
@@ -90,8 +88,8 @@ module _ (zs ys : List Float) (lent : APlace zs ys) where
   fits-whole xs even =
       let b = both-tests (oddAny [] zs ys) (eqb (length zs) (length ys)) (lent .fits) in
       let equal = eqb-true (length zs) (length ys) (b .1) in
-      let zs-even = neither-odd 0 (length zs) (first-even _ _ (b .0)) .1 in
-      let none = all-even xs zs ys (even-not-odd (length xs) even) (even-not-odd (length zs) zs-even) (even-not-odd (length ys) (omega (arith, equal, zs-even))) in
+      let zs-even = accepted-whole [] zs ys (lent .fits) .1 in
+      let none = all-even xs zs ys (λ o. omega (arith, even)) (λ o. omega (arith, zs-even)) (λ o. omega (arith, equal, zs-even)) in
       λ j. not (none j) && b .1 j
 
   -- the samples from the next strobe's place on

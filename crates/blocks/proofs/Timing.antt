@@ -1,25 +1,21 @@
 -- A timing run on xs, then one on what it did not consume followed by ys, is one run on xs followed by ys: values, count, state and instants. Over any sample type, from any given state. Assumes nothing.
 use mathlib.Core.Path.{_≡_, refl, sym, ap, _∙_}
-use mathlib.Core.Bool.{Bool, true, false, not, _&&_, cond, and-false}
-use mathlib.Core.List.{List, [], _∷_, _++_, map}
+use mathlib.Core.Bool.{Bool, true, false, cond}
+use mathlib.Core.List.{List, _∷_, _++_, map}
 use Prim.Native.Nat.{ℕ, zero, suc, _+_, _-_, _≤_, _<_}
-use native.Mathlib.Nat.{sub-zero}
 use native.Mathlib.Omega.{arith}
-use borrow.Author.Tests.{le-ltb}
 use lib.ListN.{length, getD, drop, length-append, length-drop, List·getD-append}
 use lib.Seq.{drop-cons, drop-append-le}
-use Rattle.ieee.proofs.Test.{yes}
 use Rattle.timing.specs.declared.params.Params.{Params}
 use Rattle.timing.specs.declared.clock.Clock.{Clock}
 use Rattle.timing.specs.Sample.{Ops}
 use Rattle.timing.specs.Clock.{midIndex}
 use Rattle.timing.specs.Given.{Running}
-use Rattle.timing.specs.Loop.{Track, Strobes, lacks, there, midTaken, ready, stopped, runs, pending, consumed, trackBack}
+use Rattle.timing.specs.Loop.{Track, Strobes, lacks, runs, pending, consumed, trackBack}
 use Rattle.timing.specs.Run.{Hist, Sync, Given, line, histAt, Ran, ran}
 use Rattle.timing.proofs.Laws.Clock.{running-pending, running-more}
 use Rattle.timing.proofs.Laws.Loop.{TrackRunning, runs-running}
 use Rattle.timing.proofs.Laws.Run.{ran-given}
-use Rattle.timing.proofs.Laws.Taken.{mid-by}
 use Rattle.blocks.specs.Instants.{clocks, instantOf, later, instants}
 use Rattle.blocks.specs.Timing.{goesOn, together}
 use Rattle.blocks.proofs.Longer.{runs-longer}
@@ -79,7 +75,7 @@ on-back k t h =
 hist-on : {A : Type 0} (o : Ops A) (l : List A) (k j : ℕ) → histAt o l (k + j) ≡ histAt o (drop k l) j
 unfolding histAt
 hist-on o l k j =
-    let a = sample-on l k (o .zero) (k + j) (j) refl in
+    let a = sample-on l k (o .zero) (k + j) j refl in
     let b = sample-on l k (o .zero) (k + j + 1) (j + 1) (omega arith) in
     let c = sample-on l k (o .zero) (k + j + 2) (j + 2) (omega arith) in
     λ i. record { a = a i; b = b i; c = c i }
@@ -168,45 +164,3 @@ module _ {A : Type 0} (o : Ops A) (s : Sync A) (xs ys : List A) (n m : ℕ) (few
   pub instants-together : let q = ran o s xs n in instants o s (xs ++ ys) m ≡ instants o s xs n ++ map (later (q .taken)) (instants o (q .state) (drop (q .taken) xs ++ ys) (m - length (q .values)))
   unfolding ran
   instants-together = ap (map instantOf) (runs-both .1) ∙ instants-on k (clocks o p (line (s .hist) xs) n (s .track)) (clocks o p next places track)
-
--- ---- a run on nothing
-module _ {A : Type 0} (o : Ops A) (s : Sync A) (given : Given s) where
-  abbrev bare : List A
-  bare = line (s .hist) []
-
-  -- nothing can be worked out
-  nothing-there : (i : ℕ) → 1 ≤ i → there bare i ≡ false
-  nothing-there i h = le-ltb (i + 2) 3 (omega arith)
-
-  no-middle : midTaken o (s .params) bare (s .track) ≡ s .track
-  no-middle = go (lacks (s .params) (s .track)) refl
-    where
-      go : (b : Bool) → lacks (s .params) (s .track) ≡ b → midTaken o (s .params) bare (s .track) ≡ s .track
-      go true h = mid-by o (s .params) bare (s .track) h (nothing-there (midIndex (s .track .clock)) (given .mid-first (yes h)))
-      go false h = mid-by o (s .params) bare (s .track) h refl
-
-  not-ready : ready (s .params) bare (s .track) ≡ false
-  not-ready = ap (λ (b : Bool). not (lacks (s .params) (s .track)) && b) (nothing-there (s .track .clock .i) (given .first)) ∙ and-false (not (lacks (s .params) (s .track)))
-
-  no-strobes : (m : ℕ) → (runs o (s .params) bare m (s .track) ≡ stopped (s .track)) × (clocks o (s .params) bare m (s .track) ≡ [])
-  unfolding runs clocks
-  no-strobes zero = (refl, refl)
-  no-strobes (suc m) = rw (no-middle, not-ready) (refl, refl)
-
-  pub ran-nothing : (m : ℕ) → ran o s [] m ≡ record { state = s; taken = 0; values = [] }
-  unfolding ran consumed histAt trackBack
-  ran-nothing m =
-      let t = s .track in
-      let c = t .clock in
-      let upTo : Strobes A → ℕ → Ran A = λ r k. record { state = record { params = s .params; hist = histAt o bare k; track = trackBack (r .last) k }; taken = k; values = r .values } in
-      let none : consumed (s .params) t 0 ≡ 0 = omega arith in
-      ap (λ (r : Strobes A). upTo r (consumed (s .params) (r .last) 0)) (no-strobes m .0)
-      ∙ ap (upTo (stopped t)) none
-      ∙ (λ j. record {
-        state = record { params = s .params; hist = s .hist; track = record { clock = record { i = sub-zero (c .i) j; mu = c .mu; omega = c .omega; integ = c .integ }; yPrev = t .yPrev; dPrev = t .dPrev; mid = t .mid; midReady = t .midReady; started = t .started } };
-        taken = 0;
-        values = [];
-      })
-
-  pub instants-nothing : (m : ℕ) → instants o s [] m ≡ []
-  instants-nothing m = ap (map instantOf) (no-strobes m .1)

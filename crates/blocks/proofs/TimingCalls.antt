@@ -1,35 +1,27 @@
 -- Two timing calls in a row on a recording cut in two are one call on the whole: on real samples always, on complex samples where the one call is not refused. From any given state. Assumes nothing.
-use mathlib.Core.Path.{_≡_, refl, sym, ap, ap₂, _∙_, subst}
-use mathlib.Core.Bool.{Bool, true, false, _||_}
-use mathlib.Core.List.{List, [], _∷_, _++_, append-assoc}
+use mathlib.Core.Path.{_≡_, refl, sym, ap, ap₂, _∙_}
+use mathlib.Core.Bool.{Bool, true, false}
+use mathlib.Core.List.{List, _++_, append-assoc}
 use Prim.Native.Nat.{ℕ, _+_, _-_, _*_, _/_, _%_}
 use native.Mathlib.Nat.{zero-add, one-mul}
 use native.Mathlib.Omega.{arith}
 use borrow.Author.Tests.{eqb-true, eqb-false}
-use lib.Dec.{T, eqb}
+use lib.Dec.{eqb}
 use lib.ListN.{length, take, drop, length-append, length-drop}
 use lib.Seq.{take-at, drop-at, drop-drop}
 use lib.Ieee.{Float}
 use Rattle.values.specs.declared.sample.C32.{C32}
 use Rattle.values.specs.Samples.{samples, parts}
-use Rattle.values.proofs.Laws.Samples.{samples-drop, samples-append}
+use Rattle.values.proofs.Laws.Samples.{samples-append, samples-rest}
 use Rattle.timing.specs.Sample.{real, complex}
 use Rattle.timing.specs.Run.{Sync, Given, Ran, ran, Outcome, written, done, oddEither, calledReal, doneComplex, calledComplex}
-use Rattle.timing.proofs.Laws.Run.{both-even, odd-input, calledComplex-refused, calledComplex-done}
-use Rattle.timing.proofs.Laws.Shown.{Form, onefold, twofold, length-slice}
+use Rattle.timing.proofs.Laws.Run.{odd-input, both-even, even-both, calledComplex-refused, calledComplex-done}
+use Rattle.timing.proofs.Laws.Shown.{Form, onefold, twofold, length-slice, slice-append}
 use Rattle.blocks.specs.Timing.{goesOn, together, callTogether, goesOnReal, goesOnComplex}
 use Rattle.blocks.proofs.Timing.{ran-together}
 
 -- ---- what two runs store in the places of a slice
 module _ {A : Type 0} (m : Form A) where
-  pub slice-append : (vs ws : List A) → m .slice (vs ++ ws) ≡ m .slice vs ++ m .slice ws
-  slice-append [] ws = ap (λ (l : List Float). l ++ m .slice ws) (sym (m .none))
-  slice-append (v ∷ vs) ws =
-      m .some v (vs ++ ws)
-      ∙ ap (λ (l : List Float). m .floats v ++ l) (slice-append vs ws)
-      ∙ sym (append-assoc (m .floats v) (m .slice vs) (m .slice ws))
-      ∙ ap (λ (l : List Float). l ++ m .slice ws) (sym (m .some v vs))
-
   -- the values of q stand in the first places, and what is behind them is as found
   module _ (q : Ran A) (zs : List Float) where
     abbrev n : ℕ
@@ -46,7 +38,7 @@ module _ {A : Type 0} (m : Form A) where
         let vs = m .slice (q .values) in
         let ws = m .slice (r .values) in
         let produced = sym (length-append (q .values) (r .values)) in
-        let all = slice-append (q .values) (r .values) in
+        let all = slice-append m (q .values) (r .values) in
         let long : n + length ws ≡ length (m .slice (q .values ++ r .values)) = omega (arith, ap length all, length-append vs ws, length-slice m (q .values)) in
         let behind = drop-drop (length ws) n zs ∙ ap (λ (x : ℕ). drop x zs) long in
         let output : take n (done (m .slice) q zs .output) ++ written ws (drop n zs) ≡ written (m .slice (q .values ++ r .values)) zs
@@ -72,25 +64,6 @@ module _ (s : Sync Float) (given : Given s) (xs ys zs : List Float) where
       ∙ ap (λ (r : Ran Float). done (λ vs. vs) r zs) (ran-together real s xs ys (length zs) (length zs) (omega arith) given)
 
 -- ---- complex samples
--- what is left of whole samples, and others behind it
-pub rest-samples : (k : ℕ) (xs ys : List Float) → length xs % 2 ≡ 0 → samples (drop (2 * k) xs ++ ys) ≡ drop k (samples xs) ++ samples ys
-rest-samples k xs ys even = samples-append (drop (2 * k) xs) ys (omega (arith, length-drop (2 * k) xs)) ∙ ap (λ (l : List C32). l ++ samples ys) (samples-drop k xs)
-
--- which counts are even where no buffer is odd
-pub neither-odd : (a b : ℕ) → (eqb (a % 2) 1 || eqb (b % 2) 1) ≡ false → (a % 2 ≡ 0) × (b % 2 ≡ 0)
-neither-odd a b = go (eqb (a % 2) 1) (eqb (b % 2) 1) (eqb-false (a % 2) 1) (eqb-false (b % 2) 1)
-  where
-    even : (x : ℕ) → (x % 2 ≡ 1 → ⊥) → x % 2 ≡ 0
-    even x h = omega arith
-
-    go : (p q : Bool) → (p ≡ false → a % 2 ≡ 1 → ⊥) → (q ≡ false → b % 2 ≡ 1 → ⊥) → (p || q) ≡ false → (a % 2 ≡ 0) × (b % 2 ≡ 0)
-    go false false h k e = (even a (h refl), even b (k refl))
-    go false true h k e = absurd (subst T e tt)
-    go true q h k e = absurd (subst T e tt)
-
-pub even-not-odd : (n : ℕ) → n % 2 ≡ 0 → n % 2 ≡ 1 → ⊥
-even-not-odd n h k = absurd (omega arith)
-
 module _ (s : Sync C32) (given : Given s) (xs ys zs : List Float) where
   abbrev firstOf : Ran C32
   firstOf = ran complex s (samples xs) (length zs / 2)
@@ -101,12 +74,11 @@ module _ (s : Sync C32) (given : Given s) (xs ys zs : List Float) where
       let q = doneComplex s xs zs in
       let n = length (firstOf .values) in
       let rest = drop (2 * firstOf .taken) xs ++ ys in
-      let rest-even = even-not-odd (length rest) (omega (arith, length-append (drop (2 * firstOf .taken) xs) ys, length-drop (2 * firstOf .taken) xs)) in
-      let left-even = even-not-odd (length (drop (2 * n) zs)) (omega (arith, length-drop (2 * n) zs)) in
+      let whole = both-even rest (drop (2 * n) zs) (λ o. omega (arith, length-append (drop (2 * firstOf .taken) xs) ys, length-drop (2 * firstOf .taken) xs)) (λ o. omega (arith, length-drop (2 * n) zs)) in
       let left : length (drop (2 * n) zs) / 2 ≡ length zs / 2 - n = omega (arith, length-drop (2 * n) zs) in
       ap (λ (l : List Float). callTogether 2 q (calledComplex (firstOf .state) rest l)) (stored-rest twofold firstOf zs)
-      ∙ ap (callTogether 2 q) (calledComplex-done (firstOf .state) rest (drop (2 * n) zs) (both-even rest (drop (2 * n) zs) rest-even left-even))
-      ∙ ap₂ (λ (l : List C32) (k : ℕ). callTogether 2 q (done parts (ran complex (firstOf .state) l k) (drop (2 * n) zs))) (rest-samples (firstOf .taken) xs ys xs-even) left
+      ∙ ap (callTogether 2 q) (calledComplex-done (firstOf .state) rest (drop (2 * n) zs) whole)
+      ∙ ap₂ (λ (l : List C32) (k : ℕ). callTogether 2 q (done parts (ran complex (firstOf .state) l k) (drop (2 * n) zs))) (samples-rest (firstOf .taken) xs ys xs-even) left
       ∙ done-together twofold firstOf zs (goesOn complex firstOf (samples xs) (samples ys) (length zs / 2))
       ∙ ap (λ (r : Ran C32). done parts r zs) (ran-together complex s (samples xs) (samples ys) (length zs / 2) (length zs / 2) (omega arith) given)
       ∙ ap (λ (l : List C32). done parts (ran complex s l (length zs / 2)) zs) (sym (samples-append xs ys xs-even))
@@ -121,9 +93,9 @@ module _ (s : Sync C32) (given : Given s) (xs ys zs : List Float) where
           ap (λ (q : Outcome C32). callTogether 2 q (goesOnComplex q xs ys)) (calledComplex-refused s xs zs (odd-input xs zs (eqb-true (length xs % 2) 1 e)))
           ∙ (λ j. record { number = r .number; consumed = zero-add (r .consumed) j; produced = zero-add (r .produced) j; state = r .state; output = r .output })
       go false e =
-          let even = neither-odd (length (xs ++ ys)) (length zs) h in
+          let even = even-both (xs ++ ys) zs h in
           let xs-odd = eqb-false (length xs % 2) 1 e in
           let xs-even : length xs % 2 ≡ 0 = omega arith in
-          ap (λ (q : Outcome C32). callTogether 2 q (goesOnComplex q xs ys)) (calledComplex-done s xs zs (both-even xs zs xs-odd (even-not-odd (length zs) (even .1))))
+          ap (λ (q : Outcome C32). callTogether 2 q (goesOnComplex q xs ys)) (calledComplex-done s xs zs (both-even xs zs xs-odd (λ o. omega (arith, even .1))))
           ∙ whole-together xs-even (omega (arith, length-append xs ys, even .0)) (even .1)
           ∙ sym (calledComplex-done s (xs ++ ys) zs h)

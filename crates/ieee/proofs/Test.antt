@@ -24,6 +24,11 @@ pub both-tests : (a b : Bool) → (not a && b) ≡ true → (a ≡ false) × (b 
 both-tests false b h = (refl, h)
 both-tests true b h = absurd (yes h)
 
+-- two tests that fail
+pub neither-test : (a b : Bool) → (a || b) ≡ false → (a ≡ false) × (b ≡ false)
+neither-test false b h = (refl, h)
+neither-test true b h = absurd (subst T h tt)
+
 -- a choice by the same test, between related values
 pub cond-related : {A B : Type 0} (R : A → B → Type 0) {p q : Bool} {x y : A} {v w : B} → p ≡ q → R x v → R y w → R (cond p x y) (cond q v w)
 cond-related R {p = true} e h k = rw (← e) h

@@ -2,14 +2,15 @@
 use mathlib.Core.Path.{_≡_, ap, _∙_}
 use mathlib.Core.Bool.{Bool, true, false, cond}
 use mathlib.Core.List.{List}
-use borrow.Author.Tests.{eq-eqb, ne-eqb}
+use borrow.Author.Tests.{eqb-true, eq-eqb, ne-eqb}
 use lib.Dec.{eqb}
 use lib.ListN.{length}
 use lib.Ieee.{Float}
+use Rattle.ieee.proofs.Test.{both-tests}
 use Rattle.values.specs.declared.error.Refusal.the-variants.{Uneven, Odd}
 use Rattle.timing.specs.Run.{oddEither}
 use Rattle.carrier.specs.declared.state.CostasState.{CostasState}
-use Rattle.carrier.specs.Run.{Outcome, turnedAway, done, called}
+use Rattle.carrier.specs.Run.{Outcome, turnedAway, done, called, accepts}
 
 module _ (s : CostasState) (xs ys : List Float) where
   -- a call, by its two tests
@@ -27,3 +28,7 @@ module _ (s : CostasState) (xs ys : List Float) where
   pub called-done : oddEither xs ys ≡ false → length xs ≡ length ys → called s xs ys ≡ done s xs
   unfolding called
   called-done h k = ap (λ (b : Bool). by b (eqb (length xs) (length ys))) h ∙ ap (by false) (eq-eqb (length xs) (length ys) k)
+
+-- what an accepted call has
+pub accepted-parts : (xs ys : List Float) → accepts xs ys ≡ true → (oddEither xs ys ≡ false) × (length xs ≡ length ys)
+accepted-parts xs ys h = let t = both-tests (oddEither xs ys) (eqb (length xs) (length ys)) h in (t .0, eqb-true (length xs) (length ys) (t .1))

@@ -1,17 +1,19 @@
 -- Which sample calls are refused, and with what: an odd count of f32 in any buffer first, then a strobe buffer that is not as long as the output; in both the receiver and the buffers stay. Assumes nothing.
-use mathlib.Core.Path.{_≡_, refl, ap, _∙_}
-use mathlib.Core.Bool.{Bool, true, false, _||_, cond, or-true}
+use mathlib.Core.Path.{_≡_, refl, ap, _∙_, subst}
+use mathlib.Core.Bool.{Bool, true, false, not, _&&_, _||_, cond, or-true}
 use mathlib.Core.List.{List, []}
 use Prim.Native.Nat.{_%_}
-use borrow.Author.Tests.{eq-eqb, ne-eqb}
-use lib.Dec.{eqb}
+use borrow.Author.Tests.{eqb-true, eqb-false, eq-eqb, ne-eqb}
+use lib.Dec.{T, eqb}
 use lib.ListN.{length}
 use lib.Ieee.{Float}
+use Rattle.ieee.proofs.Test.{both-tests, neither-test}
+use Rattle.values.specs.declared.error.Refusal.{Refusal}
 use Rattle.values.specs.declared.error.Refusal.the-variants.{Uneven, Odd}
 use Rattle.timing.specs.Run.{oddEither}
-use Rattle.timing.proofs.Laws.Run.{odd-input, odd-output, both-even}
+use Rattle.timing.proofs.Laws.Run.{odd-input, odd-output, both-even, even-both}
 use Rattle.receiver.specs.declared.record.Receiver.{Receiver}
-use Rattle.receiver.specs.Call.{Outcome, turnedAway, done, oddAny, called}
+use Rattle.receiver.specs.Call.{Outcome, turnedAway, done, oddAny, called, accepts}
 
 -- ---- which counts are odd
 module _ (xs zs ys : List Float) where
@@ -26,6 +28,10 @@ module _ (xs zs ys : List Float) where
 
   pub all-even : (length xs % 2 ≡ 1 → ⊥) → (length zs % 2 ≡ 1 → ⊥) → (length ys % 2 ≡ 1 → ⊥) → oddAny xs zs ys ≡ false
   all-even h i j = λ a. both-even xs zs h i a || ne-eqb (length ys % 2) 1 j a
+
+  -- an accepted call has whole samples
+  pub accepted-whole : accepts xs zs ys ≡ true → (length xs % 2 ≡ 0) × (length zs % 2 ≡ 0)
+  accepted-whole h = even-both xs zs (neither-test (oddEither xs zs) (eqb (length ys % 2) 1) (both-tests (oddAny xs zs ys) (eqb (length zs) (length ys)) h .0) .0)
 
 -- ---- what a call comes to
 module _ (r : Receiver) (xs zs ys : List Float) where
@@ -44,6 +50,18 @@ module _ (r : Receiver) (xs zs ys : List Float) where
   pub called-done : oddAny xs zs ys ≡ false → length zs ≡ length ys → called r xs zs ys ≡ done r xs zs ys
   unfolding called
   called-done h k = ap (λ (b : Bool). by b (eqb (length zs) (length ys))) h ∙ ap (by false) (eq-eqb (length zs) (length ys) k)
+
+  -- the same by whether it is accepted
+  pub accepted-done : accepts xs zs ys ≡ true → called r xs zs ys ≡ done r xs zs ys
+  accepted-done h = let t = both-tests (oddAny xs zs ys) (eqb (length zs) (length ys)) h in called-done (t .0) (eqb-true (length zs) (length ys) (t .1))
+
+  pub refused-by : accepts xs zs ys ≡ false → (n : Refusal) × (called r xs zs ys ≡ turnedAway n r zs ys)
+  refused-by = go (oddAny xs zs ys) (eqb (length zs) (length ys)) refl refl
+    where
+      go : (o e : Bool) → oddAny xs zs ys ≡ o → eqb (length zs) (length ys) ≡ e → (not o && e) ≡ false → (n : Refusal) × (called r xs zs ys ≡ turnedAway n r zs ys)
+      go true e h k f = (Odd, called-odd h)
+      go false true h k f = absurd (subst T f tt)
+      go false false h k f = (Uneven, called-uneven h (eqb-false (length zs) (length ys) k))
 
   -- a call's number, exactly: 8 if a count is odd, else 7 if the lengths differ, else none
   pub called-number : called r xs zs ys .number ≡ cond (oddAny xs zs ys) 8 (cond (eqb (length zs) (length ys)) 0 7)

@@ -1,6 +1,6 @@
 -- What a sample call leaves: it counts no more than was lent, takes all input if an output place is left, and leaves every place past those produced as found, in both buffers. Assumes nothing.
 use mathlib.Core.Path.{_≡_, refl, _∙_, subst}
-use mathlib.Core.Bool.{Bool, true, false, _||_}
+use mathlib.Core.Bool.{Bool, true, false}
 use mathlib.Core.List.{List}
 use Prim.Native.Nat.{ℕ, _*_, _/_, _≤_, _<_}
 use native.Mathlib.Omega.{arith}
@@ -9,6 +9,7 @@ use lib.Dec.{lit<, eqb}
 use lib.ListN.{length, take, drop, length-take, length-append, length-drop}
 use lib.Seq.{drop-append-seam}
 use lib.Ieee.{Float}
+use Rattle.ieee.proofs.Test.{neither-test}
 use Rattle.values.specs.declared.sample.C32.{C32}
 use Rattle.values.specs.declared.error.Refusal.{Refusal}
 use Rattle.values.specs.declared.error.Refusal.the-variants.{Uneven, Odd}
@@ -65,15 +66,10 @@ done-sparing r xs zs ys even equal =
       output-length = front-length v ys (omega arith);
     }
 
--- neither of the first two buffers is odd where none is
-pub first-even : (a b : Bool) → (a || b) ≡ false → a ≡ false
-first-even true b e = e
-first-even false b e = refl
-
 pub called-sparing : (r : Receiver) (xs zs ys : List Float) → Sparing xs zs ys (called r xs zs ys)
 called-sparing r xs zs ys = go (oddAny xs zs ys) (eqb (length zs) (length ys)) refl refl
   where
     go : (o e : Bool) → oddAny xs zs ys ≡ o → eqb (length zs) (length ys) ≡ e → Sparing xs zs ys (called r xs zs ys)
     go true e h k = rw (called-odd r xs zs ys h) (refused-sparing Odd r xs zs ys (lit< tt))
-    go false true h k = let q = eqb-true (length zs) (length ys) k in rw (called-done r xs zs ys h q) (done-sparing r xs zs ys (first-even _ _ h) q)
+    go false true h k = let q = eqb-true (length zs) (length ys) k in rw (called-done r xs zs ys h q) (done-sparing r xs zs ys (neither-test _ _ h .0) q)
     go false false h k = rw (called-uneven r xs zs ys h (eqb-false (length zs) (length ys) k)) (refused-sparing Uneven r xs zs ys (lit< tt))

@@ -5,11 +5,12 @@ use mathlib.Core.List.{List}
 use Prim.Native.Nat.{ℕ, _+_, _*_, _/_, _%_, _≤_, _<_}
 use native.Mathlib.Nat.{mul-le-mul-left}
 use native.Mathlib.Omega.{arith}
-use borrow.Author.Tests.{eq-eqb, ne-eqb}
+use borrow.Author.Tests.{eqb-false, eq-eqb, ne-eqb}
 use lib.Dec.{eqb}
 use lib.ListN.{length, drop, length-append, length-drop}
 use lib.Seq.{drop-append-seam}
 use lib.Ieee.{Float}
+use Rattle.ieee.proofs.Test.{neither-test}
 use Rattle.values.specs.declared.sample.C32.{C32}
 use Rattle.values.specs.declared.error.Refusal.the-variants.{Odd}
 use Rattle.values.specs.Samples.{samples}
@@ -89,6 +90,13 @@ module _ (xs ys : List Float) where
 
   pub both-even : (length xs % 2 ≡ 1 → ⊥) → (length ys % 2 ≡ 1 → ⊥) → oddEither xs ys ≡ false
   both-even h k = rw (ne-eqb (length xs % 2) 1 h, ne-eqb (length ys % 2) 1 k)
+
+  pub even-both : oddEither xs ys ≡ false → (length xs % 2 ≡ 0) × (length ys % 2 ≡ 0)
+  even-both h =
+      let t = neither-test (eqb (length xs % 2) 1) (eqb (length ys % 2) 1) h in
+      let a = eqb-false (length xs % 2) 1 (t .0) in
+      let b = eqb-false (length ys % 2) 1 (t .1) in
+      (omega arith, omega arith)
 
 -- ---- a call on complex samples
 module _ (s : Sync C32) (xs ys : List Float) where

@@ -1,7 +1,7 @@
 -- What a run shows over a buffer, for any sample type: the invariant of the loops that store its values one by one, its turns, and what it says at the end. Assumes nothing.
 use mathlib.Core.Path.{_≡_, refl, sym, ap, _∙_, subst}
 use mathlib.Core.Bool.{Bool, true, false, not, Bool·not-not, _&&_}
-use mathlib.Core.List.{List, [], _∷_, _++_}
+use mathlib.Core.List.{List, [], _∷_, _++_, append-assoc}
 use Prim.Native.Nat.{ℕ, suc, _+_, _-_, _*_, _≤_, _<_, _^_}
 use native.Mathlib.Nat.{zero-add, add-zero, sub-zero, mul-suc, mul-le-mul-left}
 use native.Mathlib.Omega.{arith}
@@ -49,6 +49,14 @@ twofold = record { floats = λ y. y .re ∷ y .im ∷ []; slice = parts; width =
 pub length-slice : {A : Type 0} (m : Form A) (vs : List A) → length (m .slice vs) ≡ m .width * length vs
 length-slice m [] = ap length (m .none) ∙ omega arith
 length-slice m (y ∷ l) = ap length (m .some y l) ∙ length-append (m .floats y) (m .slice l) ∙ (let a = m .wide y in let b = length-slice m l in let c = mul-suc (m .width) (length l) in omega arith)
+
+pub slice-append : {A : Type 0} (m : Form A) (vs ws : List A) → m .slice (vs ++ ws) ≡ m .slice vs ++ m .slice ws
+slice-append m [] ws = ap (λ (l : List Float). l ++ m .slice ws) (sym (m .none))
+slice-append m (v ∷ vs) ws =
+    m .some v (vs ++ ws)
+    ∙ ap (λ (l : List Float). m .floats v ++ l) (slice-append m vs ws)
+    ∙ sym (append-assoc (m .floats v) (m .slice vs) (m .slice ws))
+    ∙ ap (λ (l : List Float). l ++ m .slice ws) (sym (m .some v vs))
 
 -- stores one after the other
 sets-append : (l : List Float) (i : ℕ) (vs ws : List Float) → sets l i (vs ++ ws) ≡ sets (sets l i vs) (i + length vs) ws

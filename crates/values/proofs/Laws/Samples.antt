@@ -5,7 +5,7 @@ use Prim.Native.Nat.{ℕ, zero, suc, _+_, _*_, _/_, _%_, _<_, _≤_}
 use native.Mathlib.Numerals.{add-one}
 use native.Mathlib.Omega.{arith}
 use borrow.Author.Tests.{lt-ltb, le-ltb}
-use lib.ListN.{List·getD-eq-default, length, getD, take, drop, set}
+use lib.ListN.{List·getD-eq-default, length, length-drop, getD, take, drop, set}
 use lib.Seq.{sets}
 use lib.Ieee.{Float}
 use Rattle.values.specs.declared.sample.C32.{C32}
@@ -84,6 +84,10 @@ unfolding samples
 samples-append [] ys h = refl
 samples-append (x ∷ []) ys h = absurd (omega arith)
 samples-append (x ∷ y ∷ l) ys h = ap (λ (m : List C32). record { re = x; im = y } ∷ m) (samples-append l ys (omega arith))
+
+-- what is left of whole samples, and others behind it
+pub samples-rest : (n : ℕ) (xs ys : List Float) → length xs % 2 ≡ 0 → samples (drop (2 * n) xs ++ ys) ≡ drop n (samples xs) ++ samples ys
+samples-rest n xs ys even = samples-append (drop (2 * n) xs) ys (omega (arith, length-drop (2 * n) xs)) ∙ ap (λ (l : List C32). l ++ samples ys) (samples-drop n xs)
 
 -- ---- a sample is stored
 pub stored-sets : (ys : List Float) (k : ℕ) (y : C32) → k < length ys / 2 → stored ys k y ≡ sets ys (2 * k) (y .re ∷ y .im ∷ [])
