@@ -55,6 +55,30 @@ received r l n = assembled r (timed r l n) (carried r (timed r l n .values)) (in
 pub received-instants : (r : Receiver) (l : List C32) (n : ℕ) → length (received r l n .instants) ≡ received r l n .produced
 received-instants r l n = instants-count complex (sync (r .timing)) l n
 
+-- ---- two in a row are one, where there are m places in all
+pub received-joined : (r : Receiver) → Given r → (xs ys : List C32) (n m : ℕ) → n ≤ m → let q = received r xs n in joined q (received (q .receiver) (drop (q .consumed) xs ++ ys) (m - q .produced)) ≡ received r (xs ++ ys) m
+received-joined r given xs ys n m fewer =
+    let s = sync (r .timing) in
+    let q = timed r xs n in
+    let p = goesOn complex q xs ys m in
+    let u = carried r (q .values) in
+    let v = runs cosList (r .carrier .constellation) (r .carrier .params) (u .last) (p .values) in
+    let timings = ran-together complex s xs ys n m fewer (given .timing) in
+    let carriers = runs-together cosList (r .carrier .constellation) (r .carrier .params) (r .carrier .track) (q .values) (p .values) in
+    let is = instants-together complex s xs ys n m fewer (given .timing) in
+    let count = sym (length-append (q .values) (p .values)) in
+    let symbols = held-twice (r .count) (length (q .values)) (length (p .values)) ∙ ap (held (r .count)) count in
+    (λ j. record {
+      strobes = q .values ++ p .values;
+      outputs = u .values ++ v .values;
+      instants = sym is j;
+      consumed = q .taken + p .taken;
+      produced = count j;
+      receiver = record { timing = stateOf (p .state); carrier = record { constellation = r .carrier .constellation; params = r .carrier .params; track = v .last }; count = symbols j };
+    })
+    ∙ ap (λ (c : Symbols). assembled r (together q p) c (instants complex s (xs ++ ys) m)) carriers
+    ∙ ap (λ (t : Ran C32). assembled r t (carried r (t .values)) (instants complex s (xs ++ ys) m)) timings
+
 -- ---- a call that is not refused is one
 module _ (w : Waiting) (c : Call) where
   abbrev r : Receiver
@@ -114,30 +138,6 @@ not-later (x ∷ l) = λ j. record { sample = +ℤ-idl (x .sample) j; part = x .
 
 pub silent-first : (r : Receiver) (h : Heard) → joined (silent r) h ≡ h
 silent-first r h = λ j. record { strobes = h .strobes; outputs = h .outputs; instants = not-later (h .instants) j; consumed = zero-add (h .consumed) j; produced = zero-add (h .produced) j; receiver = h .receiver }
-
--- ---- two in a row are one, where there are m places in all
-pub received-joined : (r : Receiver) → Given r → (xs ys : List C32) (n m : ℕ) → n ≤ m → let q = received r xs n in joined q (received (q .receiver) (drop (q .consumed) xs ++ ys) (m - q .produced)) ≡ received r (xs ++ ys) m
-received-joined r given xs ys n m fewer =
-    let s = sync (r .timing) in
-    let q = timed r xs n in
-    let p = goesOn complex q xs ys m in
-    let u = carried r (q .values) in
-    let v = runs cosList (r .carrier .constellation) (r .carrier .params) (u .last) (p .values) in
-    let timings = ran-together complex s xs ys n m fewer (given .timing) in
-    let carriers = runs-together cosList (r .carrier .constellation) (r .carrier .params) (r .carrier .track) (q .values) (p .values) in
-    let is = instants-together complex s xs ys n m fewer (given .timing) in
-    let count = sym (length-append (q .values) (p .values)) in
-    let symbols = held-twice (r .count) (length (q .values)) (length (p .values)) ∙ ap (held (r .count)) count in
-    (λ j. record {
-      strobes = q .values ++ p .values;
-      outputs = u .values ++ v .values;
-      instants = sym is j;
-      consumed = q .taken + p .taken;
-      produced = count j;
-      receiver = record { timing = stateOf (p .state); carrier = record { constellation = r .carrier .constellation; params = r .carrier .params; track = v .last }; count = symbols j };
-    })
-    ∙ ap (λ (c : Symbols). assembled r (together q p) c (instants complex s (xs ++ ys) m)) carriers
-    ∙ ap (λ (t : Ran C32). assembled r t (carried r (t .values)) (instants complex s (xs ++ ys) m)) timings
 
 -- ---- on nothing
 pub received-nothing : (r : Receiver) → Given r → (m : ℕ) → received r [] m ≡ silent r
