@@ -3,6 +3,7 @@ pub mod Setup
 pub mod Gains
 pub mod Refused
 pub mod Count
+pub mod Carried
 pub mod Given
 pub mod Class
 pub mod Size

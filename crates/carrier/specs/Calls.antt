@@ -6,11 +6,11 @@ use mathlib.Core.List.{List}
 use lib.Dec.{T}
 use Rattle.ieee.specs.Alike.{Alike}
 use Rattle.values.specs.Samples.{samples}
-use Rattle.values.specs.Each.{Each}
+use Rattle.lists.specs.Each.{Each}
 use Rattle.values.specs.Calls.{outcomesBy, afterBy}
 use Rattle.values.specs.Turn.{AllTurned}
+use Rattle.values.specs.TurnedCall.{Call}
 use Rattle.mix.specs.Quarter.{quartersOn}
-use Rattle.timing.specs.Calls.{Call}
 use Rattle.carrier.specs.declared.constellation.CostasConstellation.{CostasConstellation}
 use Rattle.carrier.specs.declared.constellation.CostasConstellation.the-variants.{Bpsk, Qpsk, Psk8}
 use Rattle.carrier.specs.declared.state.CostasState.{CostasState}

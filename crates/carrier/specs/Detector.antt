@@ -2,10 +2,10 @@
 use mathlib.Core.Bool.{cond}
 use lib.Ieee.{Float}
 use lib.Ieee.Scale.{finite}
-use Rattle.ieee.specs.Constants.{zero₀}
+use Rattle.ieee.specs.Notation.{zero₀, _⊕_, _⊖_, _⊗_}
 use Rattle.values.specs.declared.sample.C32.{C32}
+use Rattle.numbers.specs.Sign.{signOf}
 use Rattle.mix.specs.declared.oscillator.Pair.{Pair}
-use Rattle.timing.specs.Part.{_⊕_, _⊖_, _⊗_, signOf}
 use Rattle.carrier.specs.declared.constellation.CostasConstellation.{CostasConstellation}
 use Rattle.carrier.specs.declared.constellation.CostasConstellation.the-variants.{Bpsk, Qpsk, Psk8}
 use Rattle.carrier.specs.Octant.{decisionOf}

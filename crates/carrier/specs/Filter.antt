@@ -1,10 +1,10 @@
 -- "Frequency = flush(frequency + ki × e), limited. Phase adds floor(v × 2^32 + 1/2) mod 2^32, v = frequency + kp × e". Definitions only.
 use Prim.Native.Nat.{_+_, _%_, _^_}
 use lib.Ieee.{Float, binary32}
+use Rattle.ieee.specs.Notation.{_⊕_, _⊗_}
 use Rattle.numbers.specs.Denormal.{flushed}
 use Rattle.numbers.specs.Range.{limited}
 use Rattle.modulate.specs.Step.{phaseStep}
-use Rattle.timing.specs.Part.{_⊕_, _⊗_}
 use Rattle.carrier.specs.declared.params.Params.{Params}
 use Rattle.carrier.specs.declared.filter.Nco.{Nco}
 

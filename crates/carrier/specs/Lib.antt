@@ -7,3 +7,4 @@ pub mod Step
 pub mod State
 pub mod Run
 pub mod Calls
+pub mod Cases

@@ -1,26 +1,15 @@
 -- "The lock measure is a finite number or none. With a = p × p, b = q × q, t = a + b, g = a - b: …" and what it does to level and lock. In f32. Definitions only.
-use Prim.Native.Nat.{ℕ}
 use mathlib.Core.Bool.{Bool, true, false, cond}
-use lib.IntN.{pos}
-use lib.Ieee.{Float, fin, binary32, round, div, lt}
+use lib.Ieee.{Float, binary32, lt}
 use lib.Ieee.Scale.{finite}
-use Rattle.ieee.specs.Constants.{half₀, one₀, two₀}
+use Rattle.ieee.specs.Notation.{_⊕_, _⊖_, _⊗_, _⊘_, half₀, one₀, two₀, four₀, eight₀, decimal}
 use Rattle.values.specs.declared.sample.C32.{C32}
 use Rattle.numbers.specs.Denormal.{flushed}
-use Rattle.timing.specs.Part.{_⊕_, _⊖_, _⊗_}
-use Rattle.timing.specs.Gains.{four₀}
 use Rattle.carrier.specs.declared.constellation.CostasConstellation.{CostasConstellation}
 use Rattle.carrier.specs.declared.constellation.CostasConstellation.the-variants.{Bpsk, Qpsk, Psk8}
 use Rattle.carrier.specs.declared.lock.Metric.{Metric}
 use Rattle.carrier.specs.declared.lock.Metric.the-variants.{Number, Nothing}
 use Rattle.carrier.specs.declared.lock.Lock.{Lock}
-
-infixl 70 _⊘_
-abbrev pub _⊘_ : Float → Float → Float
-x ⊘ y = div binary32 x y
-
-abbrev pub eight₀ : Float
-eight₀ = fin false 1 (pos 3)
 
 abbrev pub square : Float → Float
 square x = x ⊗ x
@@ -60,17 +49,13 @@ unfoldable pub metricOf : CostasConstellation → C32 → C32 → Metric
 metricOf c y d = let m = measured c y d in cond (finite m) (Number m) Nothing
 
 -- ---- level and lock
--- a / b, the nearest f32: "decimals are nearest in the width used"
-abbrev pub single : ℕ → ℕ → Float
-single a b = round binary32 false a b
-
 -- "level = flush(level + 0.01 × (m - level)), all f32"
 unfoldable pub smoothed : Float → Float → Float
-smoothed level m = flushed binary32 (level ⊕ single 1 100 ⊗ (m ⊖ level))
+smoothed level m = flushed binary32 (level ⊕ decimal binary32 1 100 ⊗ (m ⊖ level))
 
 -- "above 0.5 sets lock, below 0.3 clears it"
 unfoldable pub held : Bool → Float → Bool
-held was level = cond (lt half₀ level) true (cond (lt level (single 3 10)) false was)
+held was level = cond (lt half₀ level) true (cond (lt level (decimal binary32 3 10)) false was)
 
 -- "A number m gives level …. None leaves both."
 unfoldable pub watched : Lock → Metric → Lock

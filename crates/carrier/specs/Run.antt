@@ -1,16 +1,16 @@
 -- One call of the carrier loop: when it is refused, and with what number, state and output it ends. Definitions only.
-use Prim.Native.Nat.{ℕ}
+use Prim.Native.Nat.{ℕ, _*_, _/_}
 use mathlib.Core.Bool.{Bool, not, _&&_, cond}
 use mathlib.Core.List.{List}
 use lib.Dec.{eqb}
-use lib.ListN.{length}
+use lib.ListN.{length, take}
 use lib.Ieee.{Float}
 use Rattle.values.specs.declared.error.Refusal.{Refusal}
 use Rattle.values.specs.declared.error.Refusal.the-variants.{Uneven, Odd}
 use Rattle.values.specs.Refusal.{numberOf}
 use Rattle.values.specs.Samples.{samples, parts}
+use Rattle.values.specs.Buffers.{oddEither, written}
 use Rattle.cosine.specs.Table.{cosList}
-use Rattle.timing.specs.Run.{oddEither}
 use Rattle.carrier.specs.declared.state.CostasState.{CostasState}
 use Rattle.carrier.specs.declared.state.Reply.{Reply}
 use Rattle.carrier.specs.declared.state.Reply.the-variants.{Done, Refused}
@@ -36,6 +36,10 @@ turnedAway n s ys = record { number = numberOf n; state = s; output = ys }
 
 abbrev pub done : CostasState → List Float → Outcome
 done s xs = let r = symbols s xs in record { number = 0; state = record { constellation = s .constellation; params = s .params; track = r .last }; output = parts (r .values) }
+
+-- over buffers of any lengths: the symbols that both hold whole, at the front of the output
+abbrev pub carried : CostasState → List Float → List Float → Outcome
+carried s xs ys = let r = done s (take (2 * (length ys / 2)) xs) in record { number = 0; state = r .state; output = written (r .output) ys }
 
 -- "in a run 8 before 7": an odd count of f32 in either buffer, then lengths that differ
 unfoldable pub called : CostasState → List Float → List Float → Outcome

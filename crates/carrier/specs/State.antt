@@ -4,13 +4,15 @@ use Prim.Native.Nat.{ℕ, _<_, _^_}
 use mathlib.Core.Bool.{true, false, cond}
 use mathlib.Core.List.{List, [], _∷_}
 use lib.Dec.{T}
-use lib.Ieee.{Float, binary32, neg, le, isNan}
-use Rattle.ieee.specs.Constants.{zero₀}
+use lib.Ieee.{Float, binary32, neg, le, isNan, binary64}
+use Rattle.ieee.specs.Notation.{zero₀, decimal}
 use Rattle.values.specs.declared.error.Refusal.the-variants.{Width, Damping, Pull}
+use Rattle.values.specs.Refusal.{numberOf}
 use Rattle.numbers.specs.Denormal.{flushed}
 use Rattle.numbers.specs.Narrowing.{narrowed}
 use Rattle.numbers.specs.Range.{limited}
-use Rattle.timing.specs.Setup.{decimal, inRange, Row, firstOf}
+use Rattle.checks.specs.Range.{inRange}
+use Rattle.checks.specs.Table.{Row, firstOf}
 use Rattle.carrier.specs.declared.constellation.CostasConstellation.{CostasConstellation}
 use Rattle.carrier.specs.declared.params.Params.{Params}
 use Rattle.carrier.specs.declared.state.CostasState.{CostasState}
@@ -30,14 +32,19 @@ fresh c p = record { constellation = c; params = p; track = record { nco = recor
 -- rows 2 to 4 of "Answers of a call"
 abbrev pub rows : Float → Float → Float → List Row
 rows bw damping offset =
-    record { passed = inRange (decimal 1 10000) bw (decimal 2 10); reason = Width }
-    ∷ record { passed = inRange (decimal 1 10) damping (decimal 4 1); reason = Damping }
-    ∷ record { passed = inRange zero₀ offset (decimal 25 100); reason = Pull }
+    record { passed = inRange (decimal binary64 1 10000) bw (decimal binary64 2 10); reason = Width }
+    ∷ record { passed = inRange (decimal binary64 1 10) damping (decimal binary64 4 1); reason = Damping }
+    ∷ record { passed = inRange zero₀ offset (decimal binary64 25 100); reason = Pull }
     ∷ []
 
 -- a set-up's answer: "A refused set-up yields its number and no state."
 unfoldable pub opened : CostasConstellation → Float → Float → Float → SetUp
 opened c bw damping offset = firstOf Refused (rows bw damping offset) (Ready (fresh c (paramsOf bw damping offset)))
+
+-- its number (0: accepted)
+abbrev pub setUpNumber : SetUp → ℕ
+setUpNumber (Ready s) = 0
+setUpNumber (Refused n) = numberOf n
 
 -- "A phase may be set"
 abbrev pub phaseSet : CostasState → ℕ → CostasState

@@ -7,8 +7,8 @@ use values::C32;
 ghost use mathlib.Core.Path.{_≡_};
 ghost use mathlib.Core.Bool.{true};
 ghost use lib.Ieee.{lt};
-ghost use Rattle.ieee.specs.Constants.{zero₀};
-ghost use Rattle.timing.specs.Part.{signOf, _⊗_, _⊖_};
+ghost use Rattle.ieee.specs.Notation.{zero₀, _⊗_, _⊖_};
+ghost use Rattle.numbers.specs.Sign.{signOf};
 ghost use Rattle.carrier.specs.Octant.{sizeOf};
 ghost use Rattle.carrier.specs.Detector.{derotated, detected};
 

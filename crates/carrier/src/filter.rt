@@ -2,7 +2,7 @@
 use crate::params::Params;
 ghost use mathlib.Core.Path.{_≡_};
 ghost use lib.Ieee.{binary32};
-ghost use Rattle.ieee.specs.Constants.{zero₀};
+ghost use Rattle.ieee.specs.Notation.{zero₀};
 ghost use Rattle.numbers.specs.Denormal.{flushed};
 ghost use Rattle.numbers.specs.Range.{limited};
 ghost use Rattle.carrier.specs.Detector.{calmed};

@@ -31,12 +31,9 @@ const TAU: f64 = 6.283185307179586;
 pub fn loop_gains(loop_bw: f64, damping: f64) -> LoopGains
     ensures { λ r. ⌜ r ≡ record { kp = kpOf «loop_bw» damping; ki = kiOf «loop_bw» damping } ⌝ }
 {
-    let theta = loop_bw / (damping + 1.0 / (4.0 * damping));
-    let d = (1.0 + (2.0 * damping) * theta) + theta * theta;
-    let kp = (((4.0 * damping) * theta) / d) / TAU;
-    let ki = ((4.0 * (theta * theta)) / d) / TAU;
+    let q = gains::inner_gains(loop_bw, damping);
     LoopGains {
-        kp: numbers::narrow(kp),
-        ki: numbers::narrow(ki),
+        kp: numbers::narrow(q.kp / TAU),
+        ki: numbers::narrow(q.ki / TAU),
     }
 }

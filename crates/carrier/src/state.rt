@@ -8,6 +8,20 @@ use values::Refusal;
 ghost use mathlib.Core.Path.{_≡_};
 ghost use Rattle.carrier.specs.State.{paramsOf, fresh, opened, phaseSet, frequencyOf, frequencySet, Given, SetUpGiven};
 
+// Loop bandwidth, normalized to the symbol rate.
+const MIN_LOOP_BW: f64 = 0.0001;
+
+const MAX_LOOP_BW: f64 = 0.2;
+
+const MIN_DAMPING: f64 = 0.1;
+
+const MAX_DAMPING: f64 = 4.0;
+
+// Limit of the frequency integrator, in cycles per symbol.
+const MIN_OFFSET: f64 = 0.0;
+
+const MAX_OFFSET: f64 = 0.25;
+
 // The constellation, what a set-up settles, and what a run changes.
 pub struct CostasState {
     pub constellation: CostasConstellation,
@@ -66,8 +80,9 @@ fn start(constellation: CostasConstellation, p: Params) -> CostasState
     }
 }
 
-// A fresh state, or the lowest number of what is wrong with the three values. The source's "gains must
-// be finite" has no place here: they are, of values in range (`gains-finite`).
+// A fresh state, or the lowest number of what is wrong with the three values: loop_bw, 0.0001 to 0.2 of
+// the symbol rate; damping, 0.1 to 4 (1/√2 is usual); max_offset, 0 to 0.25 cycles per symbol. The
+// source's "gains must be finite" has no place here: they are, of values in range (`gains-finite`).
 pub fn set_up(
     constellation: CostasConstellation,
     loop_bw: f64,
@@ -77,13 +92,13 @@ pub fn set_up(
     ensures outcome { λ r. ⌜ r ≡ opened constellation «loop_bw» damping «max_offset» ⌝ }
     ensures given { λ r. ⌜ SetUpGiven r ⌝ }
 {
-    if !timing::within(0.0001, loop_bw, 0.2) {
+    if !checks::within(MIN_LOOP_BW, loop_bw, MAX_LOOP_BW) {
         return SetUp::Refused(Refusal::Width);
     }
-    if !timing::within(0.1, damping, 4.0) {
+    if !checks::within(MIN_DAMPING, damping, MAX_DAMPING) {
         return SetUp::Refused(Refusal::Damping);
     }
-    if !timing::within(0.0, max_offset, 0.25) {
+    if !checks::within(MIN_OFFSET, max_offset, MAX_OFFSET) {
         return SetUp::Refused(Refusal::Pull);
     }
     let p = params_of(loop_bw, damping, max_offset);

@@ -1,7 +1,1 @@
-pub mod Along
-pub mod Rules
-pub mod System
-pub mod Doubling
-pub mod Gap
-pub mod Nearest
-pub mod Once
+pub mod Laws

@@ -5,7 +5,7 @@ use lib.Dec.{T}
 use lib.Ieee.{Float, binary32, fits, lt}
 use lib.Ieee.Scale.{finite}
 use Rattle.ieee.specs.Alike.{Opposite}
-use Rattle.ieee.specs.Constants.{zero₀, one₀}
+use Rattle.ieee.specs.Notation.{zero₀, one₀}
 use Rattle.ieee.specs.Fraction.{Fraction, own, Within}
 
 -- 2 q² - 1, exactly: with q = (p - n) / c it is (2 p² + 2 n² - (4 p n + c²)) / c²

@@ -2,4 +2,5 @@
 mod symbols;
 
 pub use symbols::Ran;
+pub use symbols::carry;
 pub use symbols::run;

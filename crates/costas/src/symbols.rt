@@ -1,49 +1,13 @@
 // The run over slices that the caller lends: one output sample for each input sample.
-use carrier::CostasConstellation;
 use carrier::CostasState;
-use carrier::Params;
 use carrier::Reply;
-use carrier::Track;
 use values::Refusal;
 ghost use mathlib.Core.Path.{_≡_};
-ghost use Prim.Native.Nat.{_%_};
-ghost use lib.ListN.{length};
-ghost use Rattle.values.specs.Samples.{samples, parts};
-ghost use Rattle.cosine.specs.Table.{cosList};
-ghost use Rattle.carrier.specs.Step.{runs};
+ghost use Prim.Native.Nat.{min};
 ghost use Rattle.carrier.specs.State.{Given};
-ghost use Rattle.carrier.specs.declared.state.Reply.the-variants.{Refused};
-ghost use Rattle.carrier.specs.Run.{called};
-ghost use Rattle.costas.specs.Answered.{answered};
-
-// The symbols of the input, turned back by the loop. The table is taken once a run and lent: each
-// mention of it would be stored anew.
-fn symbols(
-    constellation: CostasConstellation,
-    p: Params,
-    t: Track,
-    input: &[f32],
-    output: &mut [f32],
-) -> Track
-    requires even { ⌜ length (now input) % 2 ≡ 0 ⌝ }
-    requires equal { ⌜ length (now output) ≡ length (now input) ⌝ }
-    ensures last { λ r. ⌜ r ≡ runs cosList constellation p t (samples (now (input .entry))) .last ⌝ }
-    ensures output { λ _. ⌜ now (output .exit) ≡ parts (runs cosList constellation p t (samples (now (input .entry))) .values) ⌝ }
-{
-    let table = tables::cos_f32_table();
-    let n = input.len() / 2;
-    let mut s = t;
-    let mut k = 0;
-    while k < n {
-        let x = values::sample_at(input, k);
-        let q = mix::interp_f32_pair(&table, s.nco.phase);
-        let y = carrier::derotate(x, q);
-        values::store_sample(output, k, y);
-        s = carrier::step(constellation, p, s, y);
-        k += 1;
-    }
-    s
-}
+ghost use Rattle.carrier.specs.declared.state.Reply.the-variants.{Done, Refused};
+ghost use Rattle.carrier.specs.Run.{carried, called};
+ghost use Rattle.costas.specs.Answered.{outcomeOf, answered};
 
 // The answer of a run, and the state after it.
 pub struct Ran {
@@ -51,34 +15,39 @@ pub struct Ran {
     pub state: CostasState,
 }
 
-// One call. An odd count of f32 in the input or the output is refused, then lengths that differ, with
-// the same state and the output as found.
-pub fn run(s: CostasState, input: &[f32], output: &mut [f32]) -> Ran
-    requires { ⌜ Given s ⌝ }
-    ensures outcome { λ r. ⌜ answered r (now (output .exit)) ≡ called s (now (input .entry)) (now (output .entry)) ⌝ }
-    ensures given { λ r. ⌜ Given (r .state) ⌝ }
+// The smaller of two counts.
+fn least(a: usize, b: usize) -> usize
+    ensures { λ r. ⌜ r ≡ min a b ⌝ }
 {
-    if input.len() % 2 == 1 {
-        return refused(Refusal::Odd, s);
-    }
-    if output.len() % 2 == 1 {
-        return refused(Refusal::Odd, s);
-    }
-    if input.len() != output.len() {
-        return refused(Refusal::Uneven, s);
-    }
-    let c = s.constellation;
+    if a < b { a } else { b }
+}
+
+// The loop over the symbols that both buffers hold whole: as many output samples stand at the front of
+// the output then, and the rest is as found. The table is taken once a run and lent: each mention of it
+// would be stored anew.
+pub fn carry(s: CostasState, input: &[f32], output: &mut [f32]) -> CostasState
+    requires { ⌜ Given s ⌝ }
+    ensures outcome { λ r. ⌜ outcomeOf Done r (now (output .exit)) ≡ carried s (now (input .entry)) (now (output .entry)) ⌝ }
+    ensures given { λ r. ⌜ Given r ⌝ }
+{
+    let constellation = s.constellation;
     let p = s.params;
-    let t = s.track;
-    let last = symbols(c, p, t, input, output);
-    let state = CostasState {
-        constellation: c,
+    let table = tables::cos_f32_table();
+    let n = least(input.len() / 2, output.len() / 2);
+    let mut t = s.track;
+    let mut k = 0;
+    while k < n {
+        let x = values::sample_at(input, k);
+        let q = mix::interp_f32_pair(&table, t.nco.phase);
+        let y = carrier::derotate(x, q);
+        values::store_sample(output, k, y);
+        t = carrier::step(constellation, p, t, y);
+        k += 1;
+    }
+    CostasState {
+        constellation: constellation,
         params: p,
-        track: last,
-    };
-    Ran {
-        answer: Reply::Done,
-        state: state,
+        track: t,
     }
 }
 
@@ -89,5 +58,25 @@ fn refused(why: Refusal, s: CostasState) -> Ran
     Ran {
         answer: Reply::Refused(why),
         state: s,
+    }
+}
+
+// One call. An odd count of f32 in the input or the output is refused, then lengths that differ, with
+// the same state and the output as found.
+pub fn run(s: CostasState, input: &[f32], output: &mut [f32]) -> Ran
+    requires { ⌜ Given s ⌝ }
+    ensures outcome { λ r. ⌜ answered r (now (output .exit)) ≡ called s (now (input .entry)) (now (output .entry)) ⌝ }
+    ensures given { λ r. ⌜ Given (r .state) ⌝ }
+{
+    if input.len() % 2 == 1 || output.len() % 2 == 1 {
+        return refused(Refusal::Odd, s);
+    }
+    if input.len() != output.len() {
+        return refused(Refusal::Uneven, s);
+    }
+    let state = carry(s, input, output);
+    Ran {
+        answer: Reply::Done,
+        state: state,
     }
 }

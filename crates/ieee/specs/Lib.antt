@@ -1,4 +1,4 @@
-pub mod Constants
+pub mod Notation
 pub mod Alike
 pub mod Magnitude
 pub mod Fraction

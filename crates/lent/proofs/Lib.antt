@@ -1,4 +1,1 @@
-pub mod Entry
-pub mod Outputs
-pub mod Locals
-pub mod Lent
+pub mod Laws

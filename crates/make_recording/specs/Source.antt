@@ -1,6 +1,6 @@
 -- The symbols of the sample recording and its carrier's phase. Definitions only.
 use Prim.Native.Nat.{ℕ, _+_, _*_, _/_, _%_, _^_}
-use Rattle.ieee.specs.Constants.{one₀}
+use Rattle.ieee.specs.Notation.{one₀}
 use Rattle.values.specs.declared.sample.C32.{C32}
 use Rattle.values.specs.Samples.{silence}
 use Rattle.values.specs.Turn.{turns}

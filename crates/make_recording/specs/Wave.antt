@@ -2,7 +2,7 @@
 use Prim.Native.Nat.{ℕ, _+_, _*_, _%_, _^_}
 use mathlib.Core.List.{List, [], _∷_}
 use lib.Ieee.{Float, binary32, add, sub, mul}
-use Rattle.ieee.specs.Constants.{half₀}
+use Rattle.ieee.specs.Notation.{half₀}
 use Rattle.values.specs.declared.sample.C32.{C32}
 use Rattle.values.specs.Samples.{parts}
 use Rattle.mix.specs.declared.oscillator.Pair.{Pair}

@@ -4,7 +4,7 @@ use mathlib.Core.Bool.{Bool, true, false, cond}
 use lib.IntN.{pos}
 use lib.Dec.{leb}
 use lib.Ieee.{Float, nan, inf, fin, binary64, up, down, add, mul}
-use Rattle.ieee.specs.Constants.{half₀}
+use Rattle.ieee.specs.Notation.{half₀}
 use Rattle.numbers.specs.Whole.{wholeDown}
 
 -- ±n modulo 2^32

@@ -8,3 +8,4 @@ pub mod Narrowing
 pub mod Shifting
 pub mod Places
 pub mod Widening
+pub mod Sign

@@ -2,7 +2,7 @@
 use Prim.Native.Nat.{_^_}
 use mathlib.Core.Bool.{false, cond}
 use lib.Ieee.{Float, Format, round, lt}
-use Rattle.ieee.specs.Constants.{zero₀}
+use Rattle.ieee.specs.Notation.{zero₀}
 use Rattle.ieee.specs.Magnitude.{magnitude}
 
 -- 1e-30, nearest in the format

@@ -5,7 +5,7 @@ use mathlib.Core.Bool.{Bool, true, false}
 use lib.IntN.{pos}
 use lib.Dec.{T}
 use lib.Ieee.{Float, nan, inf, fin, binary64, up, down, round, add, lt, eq}
-use Rattle.ieee.specs.Constants.{one₀}
+use Rattle.ieee.specs.Notation.{one₀}
 
 -- ±a / c toward minus infinity, in size: below zero the quotient is taken up
 abbrev pub wholeDown : Bool → ℕ → ℕ → ℕ

@@ -1,8 +1,9 @@
-// Numbers, from num.rs: flushing; and what document 01 adds: floor, narrowing, widening, limits and
-// finiteness.
+// Numbers, from num.rs: flushing; and what document 01 adds: floor, narrowing, widening, limits,
+// finiteness and the sign.
 mod denormal;
 mod narrowing;
 mod range;
+mod signs;
 mod whole;
 mod widening;
 
@@ -13,5 +14,6 @@ pub use range::is_finite_f32;
 pub use range::is_finite_f64;
 pub use range::limit_f32;
 pub use range::limit_f64;
+pub use signs::sign;
 pub use whole::floor;
 pub use widening::widen;

@@ -3,7 +3,7 @@ ghost use mathlib.Core.Path.{_≡_};
 ghost use mathlib.Core.Bool.{cond};
 ghost use lib.Dec.{T};
 ghost use lib.Ieee.{neg, lt};
-ghost use Rattle.ieee.specs.Constants.{zero₀, one₀};
+ghost use Rattle.ieee.specs.Notation.{zero₀, one₀};
 ghost use Rattle.numbers.specs.Whole.{floored, far, Beside};
 
 // The greatest whole number not above x. A NaN and an infinity come back as they are, and a zero

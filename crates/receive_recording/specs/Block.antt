@@ -6,7 +6,7 @@ use mathlib.Core.List.{List, [], _∷_, _++_}
 use lib.Dec.{T, eqb, leb}
 use lib.ListN.{length, drop, replicate}
 use lib.Ieee.{Float}
-use Rattle.ieee.specs.Constants.{zero₀}
+use Rattle.ieee.specs.Notation.{zero₀}
 use Rattle.receiver.specs.declared.record.Receiver.{Receiver}
 use Rattle.receiver.specs.Call.{Outcome, called}
 use Rattle.receive_recording.specs.declared.block.Heard.{Heard}

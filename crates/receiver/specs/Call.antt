@@ -10,7 +10,8 @@ use Rattle.values.specs.declared.error.Refusal.{Refusal}
 use Rattle.values.specs.declared.error.Refusal.the-variants.{Uneven, Odd}
 use Rattle.values.specs.Refusal.{numberOf}
 use Rattle.values.specs.Answer as answer
-use Rattle.timing.specs.Run.{written, oddEither, doneComplex}
+use Rattle.values.specs.Buffers.{written, oddEither}
+use Rattle.timing.specs.Run.{doneComplex}
 use Rattle.symbol_sync.specs.Complex.{sync, stateOf}
 use Rattle.carrier.specs.Run as carrier
 use Rattle.receiver.specs.declared.record.Receiver.{Receiver}

@@ -7,7 +7,7 @@ use lib.ListN.{length, take, drop}
 use lib.Ieee.{Float}
 use Rattle.values.specs.declared.sample.C32.{C32}
 use Rattle.values.specs.Samples.{samples, parts}
-use Rattle.values.specs.Each.{Each}
+use Rattle.lists.specs.Each.{Each}
 use Rattle.values.specs.Calls.{outcomesBy, afterBy}
 use Rattle.values.specs.Turn.{turnsAll, AllTurned}
 use Rattle.timing.specs.Calls.{SameClock}

@@ -2,3 +2,5 @@ pub mod Record
 pub mod Symbol
 pub mod Call
 pub mod Calls
+pub mod Sparing
+pub mod Cases

@@ -4,8 +4,10 @@ use Prim.Native.Nat.{ℕ, _<_, _^_}
 use mathlib.Core.Bool.{true}
 use mathlib.Core.List.{List, _++_}
 use lib.Dec.{T}
+use Rattle.values.specs.Refusal.{numberOf}
+use Rattle.checks.specs.Table.{Row, firstOf}
 use Rattle.timing.specs.Gains.{kpOf, kiOf}
-use Rattle.timing.specs.Setup.{Row, firstOf, paramsWith}
+use Rattle.timing.specs.Setup.{paramsWith}
 use Rattle.timing.specs.Setup as timing
 use Rattle.timing.specs.Sample.{complex}
 use Rattle.timing.specs.declared.params.Params.{Params}
@@ -49,6 +51,11 @@ rows t c = timingRows t ++ carrierRows c
 -- a set-up's answer: "A refused set-up yields its number and no state."
 unfoldable pub opened : CostasConstellation → TimingValues → CarrierValues → SetUp
 opened k t c = firstOf Refused (rows t c) (Ready (fresh k (timingParams t) (carrierParamsOf c)))
+
+-- its number (0: accepted)
+abbrev pub setUpNumber : SetUp → ℕ
+setUpNumber (Ready r) = 0
+setUpNumber (Refused n) = numberOf n
 
 -- "A reset resets both loops and clears the count."
 abbrev pub restarted : Receiver → Receiver

@@ -20,25 +20,27 @@ pub struct Receiver {
 
 // What the timing loop is set up with.
 pub struct TimingValues {
-    // Samples per symbol.
+    // Samples per symbol, 2 to 1,000,000.
     pub sps: f64,
     pub ted: Ted,
-    // Loop bandwidth, normalized to the symbol rate.
+    // Loop bandwidth, normalized to the symbol rate, 0.0001 to 0.1.
     pub loop_bw: f64,
+    // 0.1 to 4 (1/√2 is usual).
     pub damping: f64,
-    // Largest deviation of the spacing from sps, as a fraction of sps.
+    // Largest deviation of the spacing from sps, as a fraction of sps, 0 to 0.05.
     pub max_deviation: f64,
-    // Slope of the detector.
+    // Detector gain, above 0: the detector's slope per symbol of offset.
     pub ted_gain: f64,
 }
 
 // What the carrier loop is set up with, but for its constellation.
 #[repr(C)]
 pub struct CarrierValues {
-    // Loop bandwidth, normalized to the symbol rate.
+    // Loop bandwidth, normalized to the symbol rate, 0.0001 to 0.2.
     pub loop_bw: f64,
+    // 0.1 to 4 (1/√2 is usual).
     pub damping: f64,
-    // Largest frequency offset, in cycles per symbol.
+    // Largest frequency offset, in cycles per symbol, 0 to 0.25.
     pub max_offset: f64,
 }
 
@@ -51,7 +53,7 @@ pub enum SetUp {
 // ---- Set-up
 
 // A fresh receiver, or the number of what is wrong: all of timing's checks come before any of the
-// carrier's.
+// carrier's. `TimingValues` and `CarrierValues` have the ranges.
 pub fn set_up(constellation: CostasConstellation, t: TimingValues, c: CarrierValues) -> SetUp
     ensures outcome { λ r. ⌜ r ≡ opened constellation t c ⌝ }
     ensures given { λ r. ⌜ SetUpGiven r ⌝ }
@@ -130,14 +132,14 @@ impl Receiver {
     pub fn next_strobe(self) -> f64
         ensures { λ r. ⌜ r ≡ nextStrobe (self .timing .track .clock) ⌝ }
     {
-        self.timing.track.clock.next_strobe()
+        self.timing.next_strobe()
     }
 
     // The pace: the current estimate of the samples per symbol.
     pub fn sps_estimate(self) -> f64
         ensures { λ r. ⌜ r ≡ self .timing .track .clock .omega ⌝ }
     {
-        self.timing.track.clock.sps_estimate()
+        self.timing.sps_estimate()
     }
 
     // The carrier's frequency, in cycles per symbol.

@@ -1,5 +1,4 @@
 -- The laws of this crate.
-pub mod Stores
 pub mod LittleEndian
 pub mod Floats
 pub mod Digits

@@ -3,7 +3,7 @@ use Prim.Native.Nat.{ℕ}
 use mathlib.Core.Bool.{true, false, _&&_, cond}
 use lib.IntN.{pos}
 use lib.Ieee.{Float, fin, binary64, add, mul, lt, toUnsigned}
-use Rattle.ieee.specs.Constants.{half₀}
+use Rattle.ieee.specs.Notation.{half₀}
 
 abbrev pub thousand : Float
 thousand = fin false 125 (pos 3)

@@ -4,7 +4,7 @@ ghost use Prim.Native.Nat.{_*_, _/_, _^_, _<_, min};
 ghost use lib.ListN.{length, getD, take, set};
 ghost use lib.Seq.{sets};
 ghost use lib.Ieee.{binary32, toBits};
-ghost use Rattle.ieee.specs.Constants.{zero₀};
+ghost use Rattle.ieee.specs.Notation.{zero₀};
 ghost use Rattle.recordings.specs.Bytes.{littleEndian, bytesOf};
 ghost use Rattle.recordings.specs.Samples.{floats};
 

@@ -23,16 +23,17 @@ ghost use Rattle.replay_states.specs.Timing.{sameReadings, sameRest, sam
 fn readings_agree(p: Params, op: Operation) -> bool
     ensures { λ r. ⌜ r ≡ sameReadings p op ⌝ }
 {
-    floats_agree(p.sps(), p.loop_bw(), p.damping(), op)
+    floats_agree(p.sps, p.loop_bw, p.damping, op)
 }
 
 fn other_readings_agree(p: Params, op: Operation) -> bool
     ensures { λ r. ⌜ r ≡ sameRest p op ⌝ }
 {
+    let ted = p.ted;
     words_agree(
-        replay::f64_bits(p.max_deviation()),
-        replay::f64_bits(p.ted_gain()),
-        detector_code(p.ted()),
+        replay::f64_bits(p.max_deviation),
+        replay::f64_bits(p.ted_gain),
+        detector_code(ted),
         op,
     )
 }
@@ -57,7 +58,7 @@ pub fn clock_agrees(c: Clock, op: Operation) -> bool
     words_agree(
         c.i as u64,
         replay::f64_bits(c.mu),
-        replay::f64_bits(c.sps_estimate()),
+        replay::f64_bits(c.omega),
         op,
     )
 }
@@ -78,7 +79,7 @@ pub fn rest_agrees(c: Clock, mid_ready: bool, started: bool, op: Operation) -> b
     ensures { λ r. ⌜ r ≡ sameFiltered c «mid_ready» started op ⌝ }
 {
     let flags = flags(mid_ready, started);
-    let next = replay::f64_bits(c.next_strobe());
+    let next = replay::f64_bits(timing::next_strobe(c));
     if replay::alike_f64(c.integ, replay::f64_of(op.x)) {
         return words_agree(op.x, flags, next, op);
     }

@@ -11,6 +11,7 @@ use Rattle.timing.specs.Run as run
 use Rattle.symbol_sync.specs.declared.complex.Hist as declaredHist
 use Rattle.symbol_sync.specs.declared.complex.Track as declaredTrack
 use Rattle.symbol_sync.specs.declared.complex.SymbolSyncState.{SymbolSyncState}
+use Rattle.symbol_sync.specs.declared.complex.Recovered as declaredRecovered
 use Rattle.symbol_sync.specs.declared.complex.Ran as declaredRan
 use Rattle.symbol_sync.specs.declared.complex.SetUp.{SetUp}
 use Rattle.symbol_sync.specs.declared.complex.SetUp.the-variants.{Ready, Refused}
@@ -45,6 +46,10 @@ outcomeOf a s ys = record { number = number a; consumed = consumed a; produced =
 
 abbrev pub answered : declaredRan.Ran → List Float → Outcome C32
 answered r ys = outcomeOf (r .answer) (sync (r .state)) ys
+
+-- and of a run that is not refused
+abbrev pub recovered : declaredRecovered.Recovered → List Float → Outcome C32
+recovered r ys = record { number = 0; consumed = r .progress .consumed; produced = r .progress .produced; state = sync (r .state); output = ys }
 
 -- a set-up's answer
 abbrev pub opening : SetUp → Opening C32

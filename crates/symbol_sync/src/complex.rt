@@ -14,18 +14,17 @@ use values::C32;
 use values::Progress;
 use values::Refusal;
 ghost use mathlib.Core.Path.{_≡_};
-ghost use mathlib.Core.List.{[], _∷_};
-ghost use Prim.Native.Nat.{_+_, _-_, _*_, _/_, _<_, _≤_};
+ghost use Prim.Native.Nat.{_+_, _/_, _<_, _≤_};
 ghost use lib.ListN.{length, getD};
-ghost use lib.Seq.{sets};
-ghost use Rattle.values.specs.Samples.{samples, parts};
+ghost use Rattle.values.specs.Samples.{parts};
+ghost use Rattle.values.specs.Buffers.{written};
 ghost use Rattle.timing.specs.Sample.{complex};
-ghost use Rattle.timing.specs.Clock.{Able};
+ghost use Rattle.timing.specs.Clock.{Able, nextStrobe};
 ghost use Rattle.timing.specs.Setup.{tuned};
 ghost use Rattle.timing.specs.Given.{Tuned, Running};
 ghost use Rattle.timing.specs.Loop as loop;
-ghost use Rattle.timing.specs.Run.{histAt, written, fresh, openedBy, OpeningGiven, Given, doneComplex, calledComplex};
-ghost use Rattle.symbol_sync.specs.Complex.{track, hist, sync, line, opening, outcomeOf, answered};
+ghost use Rattle.timing.specs.Run.{histAt, fresh, openedBy, OpeningGiven, Given, doneComplex, calledComplex};
+ghost use Rattle.symbol_sync.specs.Complex.{track, hist, sync, line, opening, outcomeOf, answered, recovered};
 
 // The last three samples, oldest first; index 0 of the positions.
 #[repr(C)]
@@ -97,7 +96,9 @@ pub enum SetUp {
     Refused(Refusal),
 }
 
-// A fresh state, or the lowest number of what is wrong with the six values.
+// A fresh state, or the lowest number of what is wrong with the six values: sps, 2 to 1,000,000 samples
+// per symbol; loop_bw, 0.0001 to 0.1 of the symbol rate; damping, 0.1 to 4 (1/√2 is usual);
+// max_deviation, 0 to 0.05 of sps; ted_gain, above 0, the detector's slope per symbol of offset.
 pub fn set_up(
     sps: f64,
     ted: Ted,
@@ -127,6 +128,68 @@ pub fn reset(s: SymbolSyncState) -> SymbolSyncState
 {
     let p = s.params;
     start(p)
+}
+
+// ---- Readings
+
+impl SymbolSyncState {
+    // The nominal samples per symbol.
+    pub fn sps(self) -> f64
+        ensures { λ r. ⌜ r ≡ self .params .sps ⌝ }
+    {
+        self.params.sps
+    }
+
+    // The timing error detector.
+    pub fn ted(self) -> Ted
+        ensures { λ r. ⌜ r ≡ self .params .ted ⌝ }
+    {
+        let p = self.params;
+        p.ted
+    }
+
+    // The loop bandwidth, normalized to the symbol rate.
+    pub fn loop_bw(self) -> f64
+        ensures { λ r. ⌜ r ≡ self .params .«loop_bw» ⌝ }
+    {
+        self.params.loop_bw
+    }
+
+    // The damping of the loop.
+    pub fn damping(self) -> f64
+        ensures { λ r. ⌜ r ≡ self .params .damping ⌝ }
+    {
+        self.params.damping
+    }
+
+    // The largest deviation of omega from sps, as a fraction of sps.
+    pub fn max_deviation(self) -> f64
+        ensures { λ r. ⌜ r ≡ self .params .«max_deviation» ⌝ }
+    {
+        self.params.max_deviation
+    }
+
+    // The detector gain that the loop gains are divided by.
+    pub fn ted_gain(self) -> f64
+        ensures { λ r. ⌜ r ≡ self .params .«ted_gain» ⌝ }
+    {
+        self.params.ted_gain
+    }
+
+    // The current estimate of the samples per symbol.
+    pub fn sps_estimate(self) -> f64
+        ensures { λ r. ⌜ r ≡ self .track .clock .omega ⌝ }
+    {
+        self.track.clock.omega
+    }
+
+    // The position of the next strobe in input samples, counted from the first sample of the next
+    // call's input. It is negative while the strobe lies in the history.
+    pub fn next_strobe(self) -> f64
+        ensures { λ r. ⌜ r ≡ nextStrobe (self .track .clock) ⌝ }
+    {
+        timing::next_strobe(self.track.clock)
+    }
 }
 
 // ---- Windows
@@ -243,9 +306,9 @@ fn strobe(p: Params, s: Track, y: C32) -> Track
 // ---- A run
 
 // What the loop has come to.
-pub struct Strobed {
-    pub track: Track,
-    pub produced: usize,
+struct Strobed {
+    track: Track,
+    produced: usize,
 }
 
 // Strobes while an output place is left and the next one can be worked out.
@@ -288,49 +351,18 @@ fn hist_at(h: Hist, input: &[f32], k: usize) -> Hist
     Hist { a: a, b: b, c: c }
 }
 
-// The answer of a run, and the state after it.
-pub struct Ran {
-    pub answer: Answer,
+// The counts of a run that is not refused, and the state after it.
+pub struct Recovered {
+    pub progress: Progress,
     pub state: SymbolSyncState,
 }
 
-// One call: the strobes go to the front of the output. An odd count of f32 in the input or the output
-// is refused, with the same state and the output as found.
-pub fn run(s: SymbolSyncState, input: &[f32], output: &mut [f32]) -> Ran
+// The strobes go to the front of the output. A last f32 without a partner, in either buffer, is left
+// alone: `run` refuses such a buffer.
+pub fn recover(s: SymbolSyncState, input: &[f32], output: &mut [f32]) -> Recovered
     requires { ⌜ Given (sync s) ⌝ }
-    ensures outcome { λ r. ⌜ answered r (now (output .exit)) ≡ calledComplex (sync s) (now (input .entry)) (now (output .entry)) ⌝ }
+    ensures outcome { λ r. ⌜ recovered r (now (output .exit)) ≡ doneComplex (sync s) (now (input .entry)) (now (output .entry)) ⌝ }
     ensures given { λ r. ⌜ Given (sync (r .state)) ⌝ }
-{
-    if input.len() % 2 == 1 {
-        return Ran {
-            answer: Answer::Refused(Refusal::Odd),
-            state: s,
-        };
-    }
-    if output.len() % 2 == 1 {
-        return Ran {
-            answer: Answer::Refused(Refusal::Odd),
-            state: s,
-        };
-    }
-    accepted(s, input, output)
-}
-
-// The entry over a state that the caller lends, which is brought up to date.
-pub fn symbol_sync(s: &mut SymbolSyncState, input: &[f32], output: &mut [f32]) -> Answer
-    requires { ⌜ Given (sync (now s)) ⌝ }
-    ensures outcome { λ r. ⌜ outcomeOf r (sync (now (s .exit))) (now (output .exit)) ≡ calledComplex (sync (now (s .entry))) (now (input .entry)) (now (output .entry)) ⌝ }
-    ensures given { λ _. ⌜ Given (sync (now (s .exit))) ⌝ }
-{
-    let ran = run(*s, input, output);
-    *s = ran.state;
-    ran.answer
-}
-
-// A run whose buffers hold whole samples.
-fn accepted(s: SymbolSyncState, input: &[f32], output: &mut [f32]) -> Ran
-    requires { ⌜ Given (sync s) ⌝ }
-    ensures { λ r. ⌜ answered r (now (output .exit)) ≡ doneComplex (sync s) (now (input .entry)) (now (output .entry)) ⌝ }
 {
     let p = s.params;
     let h = s.hist;
@@ -351,9 +383,47 @@ fn accepted(s: SymbolSyncState, input: &[f32], output: &mut [f32]) -> Ran
         hist: kept,
         track: u,
     };
-    let answer = Answer::Done(progress);
-    Ran {
-        answer: answer,
+    Recovered {
+        progress: progress,
         state: state,
     }
+}
+
+// The answer of a run, and the state after it.
+pub struct Ran {
+    pub answer: Answer,
+    pub state: SymbolSyncState,
+}
+
+// One call: the strobes go to the front of the output. An odd count of f32 in the input or the output
+// is refused, with the same state and the output as found.
+pub fn run(s: SymbolSyncState, input: &[f32], output: &mut [f32]) -> Ran
+    requires { ⌜ Given (sync s) ⌝ }
+    ensures outcome { λ r. ⌜ answered r (now (output .exit)) ≡ calledComplex (sync s) (now (input .entry)) (now (output .entry)) ⌝ }
+    ensures given { λ r. ⌜ Given (sync (r .state)) ⌝ }
+{
+    if input.len() % 2 == 1 || output.len() % 2 == 1 {
+        return Ran {
+            answer: Answer::Refused(Refusal::Odd),
+            state: s,
+        };
+    }
+    let done = recover(s, input, output);
+    let progress = done.progress;
+    let state = done.state;
+    Ran {
+        answer: Answer::Done(progress),
+        state: state,
+    }
+}
+
+// The entry over a state that the caller lends, which is brought up to date.
+pub fn symbol_sync(s: &mut SymbolSyncState, input: &[f32], output: &mut [f32]) -> Answer
+    requires { ⌜ Given (sync (now s)) ⌝ }
+    ensures outcome { λ r. ⌜ outcomeOf r (sync (now (s .exit))) (now (output .exit)) ≡ calledComplex (sync (now (s .entry))) (now (input .entry)) (now (output .entry)) ⌝ }
+    ensures given { λ _. ⌜ Given (sync (now (s .exit))) ⌝ }
+{
+    let ran = run(*s, input, output);
+    *s = ran.state;
+    ran.answer
 }

@@ -14,12 +14,13 @@ use values::Refusal;
 ghost use mathlib.Core.Path.{_≡_};
 ghost use Prim.Native.Nat.{_+_, _<_, _≤_};
 ghost use lib.ListN.{length, getD};
+ghost use Rattle.values.specs.Buffers.{written};
 ghost use Rattle.timing.specs.Sample.{real};
-ghost use Rattle.timing.specs.Clock.{Able};
+ghost use Rattle.timing.specs.Clock.{Able, nextStrobe};
 ghost use Rattle.timing.specs.Setup.{tuned};
 ghost use Rattle.timing.specs.Given.{Tuned, Running};
 ghost use Rattle.timing.specs.Loop as loop;
-ghost use Rattle.timing.specs.Run.{histAt, written, fresh, openedBy, OpeningGiven, Given, calledReal};
+ghost use Rattle.timing.specs.Run.{histAt, fresh, openedBy, OpeningGiven, Given, calledReal};
 ghost use Rattle.symbol_sync.specs.Real.{track, hist, sync, line, opening, outcomeOf, answered};
 
 // The last three samples, oldest first; index 0 of the positions.
@@ -91,7 +92,9 @@ pub enum SetUp {
     Refused(Refusal),
 }
 
-// A fresh state, or the lowest number of what is wrong with the six values.
+// A fresh state, or the lowest number of what is wrong with the six values: sps, 2 to 1,000,000 samples
+// per symbol; loop_bw, 0.0001 to 0.1 of the symbol rate; damping, 0.1 to 4 (1/√2 is usual);
+// max_deviation, 0 to 0.05 of sps; ted_gain, above 0, the detector's slope per symbol of offset.
 pub fn set_up(
     sps: f64,
     ted: Ted,
@@ -121,6 +124,68 @@ pub fn reset(s: SymbolSyncState) -> SymbolSyncState
 {
     let p = s.params;
     start(p)
+}
+
+// ---- Readings
+
+impl SymbolSyncState {
+    // The nominal samples per symbol.
+    pub fn sps(self) -> f64
+        ensures { λ r. ⌜ r ≡ self .params .sps ⌝ }
+    {
+        self.params.sps
+    }
+
+    // The timing error detector.
+    pub fn ted(self) -> Ted
+        ensures { λ r. ⌜ r ≡ self .params .ted ⌝ }
+    {
+        let p = self.params;
+        p.ted
+    }
+
+    // The loop bandwidth, normalized to the symbol rate.
+    pub fn loop_bw(self) -> f64
+        ensures { λ r. ⌜ r ≡ self .params .«loop_bw» ⌝ }
+    {
+        self.params.loop_bw
+    }
+
+    // The damping of the loop.
+    pub fn damping(self) -> f64
+        ensures { λ r. ⌜ r ≡ self .params .damping ⌝ }
+    {
+        self.params.damping
+    }
+
+    // The largest deviation of omega from sps, as a fraction of sps.
+    pub fn max_deviation(self) -> f64
+        ensures { λ r. ⌜ r ≡ self .params .«max_deviation» ⌝ }
+    {
+        self.params.max_deviation
+    }
+
+    // The detector gain that the loop gains are divided by.
+    pub fn ted_gain(self) -> f64
+        ensures { λ r. ⌜ r ≡ self .params .«ted_gain» ⌝ }
+    {
+        self.params.ted_gain
+    }
+
+    // The current estimate of the samples per symbol.
+    pub fn sps_estimate(self) -> f64
+        ensures { λ r. ⌜ r ≡ self .track .clock .omega ⌝ }
+    {
+        self.track.clock.omega
+    }
+
+    // The position of the next strobe in input samples, counted from the first sample of the next
+    // call's input. It is negative while the strobe lies in the history.
+    pub fn next_strobe(self) -> f64
+        ensures { λ r. ⌜ r ≡ nextStrobe (self .track .clock) ⌝ }
+    {
+        timing::next_strobe(self.track.clock)
+    }
 }
 
 // ---- Windows
@@ -237,9 +302,9 @@ fn strobe(p: Params, s: Track, y: f32) -> Track
 // ---- A run
 
 // What the loop has come to.
-pub struct Strobed {
-    pub track: Track,
-    pub produced: usize,
+struct Strobed {
+    track: Track,
+    produced: usize,
 }
 
 // Strobes while an output place is left and the next one can be worked out.

@@ -1,23 +1,19 @@
 -- "Turned recordings", for the complex timing loop alone: a list of calls, each on the state that the last one left, and what it means that a second list is the first turned k times. Definitions only.
 use mathlib.Core.Path.{_≡_}
 use Prim.Native.Nat.{ℕ}
-use mathlib.Core.Bool.{Bool, true, not}
+use mathlib.Core.Bool.{Bool, not}
 use mathlib.Core.List.{List}
-use lib.ListN.{length, take}
-use lib.Ieee.{Float}
+use lib.ListN.{take}
 use Rattle.ieee.specs.Alike.{Alike}
 use Rattle.values.specs.declared.sample.C32.{C32}
 use Rattle.values.specs.Samples.{samples}
-use Rattle.values.specs.Each.{Each}
+use Rattle.lists.specs.Each.{Each}
 use Rattle.values.specs.Calls.{outcomesBy, afterBy}
 use Rattle.values.specs.Turn.{AllTurned}
+use Rattle.values.specs.Buffers.{oddEither}
+use Rattle.values.specs.TurnedCall.{Call}
 use Rattle.timing.specs.Clock.{nextStrobe}
-use Rattle.timing.specs.Run.{Sync, Outcome, oddEither, calledComplex}
-
--- what a call lends: the input, and the output as it is found
-pub record Call : Type 0 where
-  pub input : List Float
-  pub output : List Float
+use Rattle.timing.specs.Run.{Sync, Outcome, calledComplex}
 
 -- one call, and the state that it leaves
 abbrev pub callOf : Sync C32 → Call → Outcome C32
@@ -36,12 +32,6 @@ after s cs = afterBy callOf leftBy s cs
 -- which calls are not refused
 abbrev pub whole : Call → Bool
 whole c = not (oddEither (c .input) (c .output))
-
--- "the same buffer lengths and each input turned k times; where a call is refused, only lengths must agree"; `taken` says which calls are not
-pub record TurnedCall (taken : Call → Bool) (k : ℕ) (c d : Call) : Type 0 where
-  pub inputs : length (d .input) ≡ length (c .input)
-  pub outputs : length (d .output) ≡ length (c .output)
-  pub turned : taken c ≡ true → AllTurned k (samples (c .input)) (samples (d .input))
 
 -- the strobes that a call produced, where it wrote them
 abbrev pub strobes : Outcome C32 → List C32

@@ -3,10 +3,10 @@ use mathlib.Core.Path.{_≡_}
 use Prim.Native.Nat.{ℕ, _+_, _-_, _^_, _≤_, _<_}
 use mathlib.Core.Bool.{Bool, false, not, _&&_, cond}
 use lib.Dec.{T}
-use lib.IntN.{pos, negsuc}
-use lib.Ieee.{Float, fin, binary64, add, sub, mul, lt, ofInt, fits}
+use lib.IntN.{pos}
+use lib.Ieee.{Float, binary64, lt, ofInt, fits}
 use lib.Ieee.Scale.{finite}
-use Rattle.ieee.specs.Constants.{zero₀, half₀}
+use Rattle.ieee.specs.Notation.{_⊞_, _⊟_, _⊠_, zero₀, quarter₀, half₀, three₀}
 use Rattle.numbers.specs.Denormal.{flushed}
 use Rattle.numbers.specs.Range.{limited}
 use Rattle.numbers.specs.Whole.{floored, floorPlus, floorLess}
@@ -15,26 +15,20 @@ use Rattle.timing.specs.declared.params.Ted.the-variants.{Gardner, Muell
 use Rattle.timing.specs.declared.params.Params.{Params}
 use Rattle.timing.specs.declared.clock.Clock.{Clock}
 
-abbrev pub quarter₀ : Float
-quarter₀ = fin false 1 (negsuc 1)
-
-abbrev pub three₀ : Float
-three₀ = fin false 3 (pos 0)
-
 -- "The next strobe is reported as (i - 3) + mu"
 unfoldable pub nextStrobe : Clock → Float
-nextStrobe c = add binary64 (sub binary64 (ofInt binary64 (pos (c .i))) three₀) (c .mu)
+nextStrobe c = (ofInt binary64 (pos (c .i)) ⊟ three₀) ⊞ c .mu
 
 -- the place v after i: "i + floor(v), fraction v - floor(v)"
 abbrev pub wholeAt : ℕ → Float → ℕ
 wholeAt i v = i + floorPlus v - floorLess v
 
 abbrev pub partOf : Float → Float
-partOf v = sub binary64 v (floored v)
+partOf v = v ⊟ floored v
 
 -- "v = mu - omega × 0.5"
 unfoldable pub midway : Clock → Float
-midway c = sub binary64 (c .mu) (mul binary64 (c .omega) half₀)
+midway c = c .mu ⊟ c .omega ⊠ half₀
 
 -- the middle's place
 abbrev pub midIndex : Clock → ℕ
@@ -45,15 +39,18 @@ midPart c = partOf (midway c)
 
 -- "integ = flush(integ + ki × e) limited to ±lim"
 unfoldable pub newInteg : Params → Clock → Float → Float
-newInteg p c e = limited (flushed binary64 (add binary64 (c .integ) (mul binary64 (p .ki) e))) (p .lim)
+newInteg p c e = limited (flushed binary64 (c .integ ⊞ p .ki ⊠ e)) (p .lim)
 
 -- "omega = sps + integ"
 unfoldable pub newOmega : Params → Clock → Float → Float
-newOmega p c e = add binary64 (p .sps) (newInteg p c e)
+newOmega p c e = p .sps ⊞ newInteg p c e
 
 -- "v = (mu + omega) + step, where step is kp × e limited to ± omega × 0.25"
 unfoldable pub moved : Params → Clock → Float → Float
-moved p c e = add binary64 (add binary64 (c .mu) (newOmega p c e)) (limited (mul binary64 (p .kp) e) (mul binary64 (newOmega p c e) quarter₀))
+moved p c e =
+    let omega = newOmega p c e in
+    let step = limited (p .kp ⊠ e) (omega ⊠ quarter₀) in
+    (c .mu ⊞ omega) ⊞ step
 
 -- "i grows by floor(v), mu = v - floor(v)"
 unfoldable pub advanced : Params → Clock → Float → Clock

@@ -3,8 +3,8 @@ use mathlib.Core.Path.{_≡_}
 use Prim.Native.Nat.{ℕ, _+_, _≤_}
 use mathlib.Core.Bool.{Bool, true}
 use lib.Dec.{T}
-use lib.Ieee.{binary64, neg, add, sub, le, lt, fits}
-use Rattle.ieee.specs.Constants.{zero₀, one₀}
+use lib.Ieee.{binary64, neg, le, lt, fits}
+use Rattle.ieee.specs.Notation.{_⊞_, _⊟_, zero₀, one₀}
 use Rattle.timing.specs.declared.params.Params.{Params}
 use Rattle.timing.specs.declared.clock.Clock.{Clock}
 use Rattle.timing.specs.declared.setup.Tuning.{Tuning}
@@ -27,8 +27,8 @@ pub record Steady (p : Params) (c : Clock) : Type 0 where
   pub mu-low : T (le zero₀ (c .mu))
   pub mu-high : T (lt (c .mu) one₀)
   pub omega-fits : T (fits binary64 (c .omega))
-  pub omega-low : T (le (sub binary64 (p .sps) (p .lim)) (c .omega))
-  pub omega-high : T (le (c .omega) (add binary64 (p .sps) (p .lim)))
+  pub omega-low : T (le (p .sps ⊟ p .lim) (c .omega))
+  pub omega-high : T (le (c .omega) (p .sps ⊞ p .lim))
   pub integ-low : T (le (neg (p .lim)) (c .integ))
   pub integ-high : T (le (c .integ) (p .lim))
 

@@ -6,4 +6,7 @@ pub mod Clock
 pub mod Loop
 pub mod Given
 pub mod Run
+pub mod Sparing
+pub mod Inside
 pub mod Calls
+pub mod Cases

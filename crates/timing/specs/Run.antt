@@ -1,16 +1,17 @@
 -- A whole run over any sample type, a set-up's answer and a fresh state; and a call on real and on complex samples in slices of f32. Definitions only.
-use Prim.Native.Nat.{ℕ, _+_, _/_, _%_}
-use mathlib.Core.Bool.{Bool, true, false, _||_, cond}
-use mathlib.Core.List.{List, _∷_, _++_}
-use lib.Dec.{T, eqb}
-use lib.ListN.{length, getD, drop}
+use Prim.Native.Nat.{ℕ, _+_, _/_}
+use mathlib.Core.Bool.{true, false, cond}
+use mathlib.Core.List.{List, _∷_}
+use lib.Dec.{T}
+use lib.ListN.{length, getD}
 use lib.Ieee.{Float}
-use Rattle.ieee.specs.Constants.{zero₀}
+use Rattle.ieee.specs.Notation.{zero₀}
 use Rattle.values.specs.declared.sample.C32.{C32}
 use Rattle.values.specs.declared.error.Refusal.{Refusal}
 use Rattle.values.specs.declared.error.Refusal.the-variants.{Odd}
 use Rattle.values.specs.Refusal.{numberOf}
 use Rattle.values.specs.Samples.{samples, parts}
+use Rattle.values.specs.Buffers.{oddEither, written}
 use Rattle.timing.specs.declared.params.Params.{Params}
 use Rattle.timing.specs.declared.setup.Tuning.{Tuning}
 use Rattle.timing.specs.declared.setup.Tuning.the-variants.{Accepted, Refused}
@@ -53,6 +54,11 @@ abbrev pub openedBy : {A : Type 0} → Ops A → Tuning → Opening A
 openedBy o (Accepted p) = opened (fresh o p)
 openedBy o (Refused n) = refused n
 
+-- its number (0: accepted)
+abbrev pub openingNumber : {A : Type 0} → Opening A → ℕ
+openingNumber (opened s) = 0
+openingNumber (refused n) = numberOf n
+
 abbrev pub OpeningGiven : {A : Type 0} → Opening A → Type 0
 OpeningGiven (opened s) = Given s
 OpeningGiven (refused n) = T true
@@ -85,10 +91,6 @@ pub record Outcome (A : Type 0) : Type 0 where
   pub state : Sync A
   pub output : List Float
 
--- values at the front of a slice, and the rest of it as found
-abbrev pub written : List Float → List Float → List Float
-written vs ys = vs ++ drop (length vs) ys
-
 -- what a run gives, its values stored as `slice` has them
 abbrev pub done : {A : Type 0} → (List A → List Float) → Ran A → List Float → Outcome A
 done slice r ys = record { number = 0; consumed = r .taken; produced = length (r .values); state = r .state; output = written (slice (r .values)) ys }
@@ -100,10 +102,6 @@ calledReal s xs ys = done (λ vs. vs) (ran real s xs (length ys)) ys
 -- "A refused run yields its number, counts 0 and 0, …, the same state, and every buffer unchanged."
 abbrev pub turnedAway : {A : Type 0} → Refusal → Sync A → List Float → Outcome A
 turnedAway n s ys = record { number = numberOf n; consumed = 0; produced = 0; state = s; output = ys }
-
--- "a complex buffer has an odd count of f32"
-abbrev pub oddEither : List Float → List Float → Bool
-oddEither xs ys = eqb (length xs % 2) 1 || eqb (length ys % 2) 1
 
 -- a call whose buffers hold whole samples
 abbrev pub doneComplex : Sync C32 → List Float → List Float → Outcome C32

@@ -1,7 +1,9 @@
 -- What the timing loop asks of a sample type, and its two instances: real and complex. In f32, brackets as written, one rounding each. Definitions only.
 use lib.Ieee.{Float, nan}
 use Rattle.values.specs.declared.sample.C32.{C32}
-use Rattle.timing.specs.Part.{_⊕_, _⊖_, _⊗_, zero32, interpolated, signOf}
+use Rattle.ieee.specs.Notation.{_⊕_, _⊖_, _⊗_, zero₀}
+use Rattle.numbers.specs.Sign.{signOf}
+use Rattle.timing.specs.Part.{interpolated}
 
 pub record Ops (A : Type 0) : Type 0 where
   pub zero : A
@@ -17,7 +19,7 @@ pub record Ops (A : Type 0) : Type 0 where
 abbrev pub real : Ops Float
 real =
     record {
-      zero = zero32;
+      zero = zero₀;
       interp = interpolated;
       gardner = λ q y m. (q ⊖ y) ⊗ m;
       decide = signOf;
@@ -28,7 +30,7 @@ real =
 abbrev pub complex : Ops C32
 complex =
     record {
-      zero = record { re = zero32; im = zero32 };
+      zero = record { re = zero₀; im = zero₀ };
       interp = λ w x y z mu. record { re = interpolated (w .re) (x .re) (y .re) (z .re) mu; im = interpolated (w .im) (x .im) (y .im) (z .im) mu };
       gardner = λ q y m. (q .re ⊖ y .re) ⊗ m .re ⊕ (q .im ⊖ y .im) ⊗ m .im;
       decide = λ y. record { re = signOf (y .re); im = signOf (y .im) };

@@ -2,6 +2,9 @@
 ghost use mathlib.Core.Path.{_≡_};
 ghost use Rattle.timing.specs.Clock.{nextStrobe, settled};
 
+// How many samples the history has.
+const HIST: f64 = 3.0;
+
 #[repr(C)]
 pub struct Clock {
     // Integer part of the next strobe's position in the history followed by the input.
@@ -14,31 +17,20 @@ pub struct Clock {
     pub integ: f64,
 }
 
-impl Clock {
-    // The current estimate of the samples per symbol.
-    pub fn sps_estimate(self) -> f64
-        ensures { λ r. ⌜ r ≡ self .omega ⌝ }
-    {
-        self.omega
-    }
-
-    // The position of the next strobe in input samples, counted from the first sample of the next
-    // call's input. It is negative while the strobe lies in the history.
-    pub fn next_strobe(self) -> f64
-        ensures { λ r. ⌜ r ≡ nextStrobe self ⌝ }
-    {
-        (std::num::nearest_u64_to_f64(self.i as u64) - 3.0) + self.mu
-    }
+// The position of the next strobe in input samples, counted from the first sample of the next call's
+// input. It is negative while the strobe lies in the history.
+pub fn next_strobe(c: Clock) -> f64
+    ensures { λ r. ⌜ r ≡ nextStrobe c ⌝ }
+{
+    (std::num::nearest_u64_to_f64(c.i as u64) - HIST) + c.mu
 }
 
 // A detector's error as the loop takes it: 0 on the first strobe, and 0 if it is not finite.
 pub fn settle(started: bool, e: f32) -> f64
     ensures { λ r. ⌜ r ≡ settled started e ⌝ }
 {
-    if started {
-        if numbers::is_finite_f32(e) {
-            return e as f64;
-        }
+    if started && numbers::is_finite_f32(e) {
+        return e as f64;
     }
     0.0
 }

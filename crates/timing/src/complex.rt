@@ -1,6 +1,5 @@
 // The arithmetic of a complex sample.
 use crate::part::interp1;
-use crate::part::sign;
 use values::C32;
 ghost use mathlib.Core.Path.{_≡_};
 ghost use lib.ListN.{getD};
@@ -26,8 +25,8 @@ pub fn gardner(y_prev: C32, y: C32, m: C32) -> f32
 pub fn decide(y: C32) -> C32
     ensures { λ r. ⌜ r ≡ complex .decide y ⌝ }
 {
-    let re = sign(y.re);
-    let im = sign(y.im);
+    let re = numbers::sign(y.re);
+    let im = numbers::sign(y.im);
     C32 { re: re, im: im }
 }
 

@@ -8,11 +8,10 @@ pub mod real;
 mod setup;
 
 pub use clock::Clock;
+pub use clock::next_strobe;
 pub use clock::settle;
 pub use params::Params;
 pub use params::Ted;
 pub use part::interp1;
-pub use part::sign;
 pub use setup::Tuning;
 pub use setup::tune;
-pub use setup::within;

@@ -1,5 +1,4 @@
-// The parameters of a timing state, and their readings.
-ghost use mathlib.Core.Path.{_≡_};
+// The parameters of a timing state.
 
 // The timing error detector.
 pub enum Ted {
@@ -27,48 +26,4 @@ pub struct Params {
     pub ki: f64,
     // Limit of the integrator, in samples.
     pub lim: f64,
-}
-
-impl Params {
-    // The nominal samples per symbol.
-    pub fn sps(self) -> f64
-        ensures { λ r. ⌜ r ≡ self .sps ⌝ }
-    {
-        self.sps
-    }
-
-    // The timing error detector.
-    pub fn ted(self) -> Ted
-        ensures { λ r. ⌜ r ≡ self .ted ⌝ }
-    {
-        self.ted
-    }
-
-    // The loop bandwidth, normalized to the symbol rate.
-    pub fn loop_bw(self) -> f64
-        ensures { λ r. ⌜ r ≡ self .«loop_bw» ⌝ }
-    {
-        self.loop_bw
-    }
-
-    // The damping of the loop.
-    pub fn damping(self) -> f64
-        ensures { λ r. ⌜ r ≡ self .damping ⌝ }
-    {
-        self.damping
-    }
-
-    // The largest deviation of omega from sps, as a fraction of sps.
-    pub fn max_deviation(self) -> f64
-        ensures { λ r. ⌜ r ≡ self .«max_deviation» ⌝ }
-    {
-        self.max_deviation
-    }
-
-    // The detector gain that the loop gains are divided by.
-    pub fn ted_gain(self) -> f64
-        ensures { λ r. ⌜ r ≡ self .«ted_gain» ⌝ }
-    {
-        self.ted_gain
-    }
 }

@@ -1,6 +1,6 @@
 // Arithmetic of one part of a sample, in f32, one rounding each.
 ghost use mathlib.Core.Path.{_≡_};
-ghost use Rattle.timing.specs.Part.{interpolated, signOf};
+ghost use Rattle.timing.specs.Part.{interpolated};
 
 // 1/3, 1/2 and 1/6, each rounded once.
 const THIRD: f32 = 0.33333334;
@@ -17,17 +17,4 @@ pub fn interp1(xm1: f32, x0: f32, x1: f32, x2: f32, mu: f32) -> f32
     let c2 = (xm1 * HALF - x0) + x1 * HALF;
     let c3 = ((-(xm1 * SIXTH) + x0 * HALF) - x1 * HALF) + x2 * SIXTH;
     ((c3 * mu + c2) * mu + c1) * mu + x0
-}
-
-// 1, -1 or 0, which zeros and a NaN give.
-pub fn sign(x: f32) -> f32
-    ensures { λ r. ⌜ r ≡ signOf x ⌝ }
-{
-    if x > 0.0 {
-        1.0
-    } else if x < 0.0 {
-        -1.0
-    } else {
-        0.0
-    }
 }

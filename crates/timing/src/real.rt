@@ -23,7 +23,7 @@ pub fn gardner(y_prev: f32, y: f32, m: f32) -> f32
 pub fn decide(y: f32) -> f32
     ensures { λ r. ⌜ r ≡ real .decide y ⌝ }
 {
-    crate::part::sign(y)
+    numbers::sign(y)
 }
 
 // The Mueller-Müller error d_prev y - d y_prev.

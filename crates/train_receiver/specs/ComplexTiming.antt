@@ -2,7 +2,7 @@
 use mathlib.Core.Bool.{false}
 use mathlib.Core.List.{List}
 use lib.Ieee.{Float}
-use Rattle.ieee.specs.Constants.{zero₀}
+use Rattle.ieee.specs.Notation.{zero₀}
 use Rattle.values.specs.declared.sample.C32.{C32}
 use Rattle.values.specs.Refusal.{numberOf}
 use Rattle.values.specs.Samples.{silence}

@@ -1,7 +1,7 @@
 -- The real timing loop's state as a plain record. Definitions only.
 use mathlib.Core.Bool.{false}
 use lib.Ieee.{Float}
-use Rattle.ieee.specs.Constants.{zero₀}
+use Rattle.ieee.specs.Notation.{zero₀}
 use Rattle.values.specs.Refusal.{numberOf}
 use Rattle.timing.specs.Run.{Sync, Opening, opened, refused}
 use Rattle.symbol_sync.specs.Real.{hist, track}

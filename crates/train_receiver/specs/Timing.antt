@@ -1,6 +1,6 @@
 -- The parameters of a timing state as a plain record, and an answer as its number and counts. Definitions only.
 use Prim.Native.Nat.{_<_}
-use Rattle.ieee.specs.Constants.{zero₀}
+use Rattle.ieee.specs.Notation.{zero₀}
 use Rattle.values.specs.declared.progress.Answer.{Answer}
 use Rattle.values.specs.Answer.{number, consumed, produced}
 use Rattle.timing.specs.declared.params.Params.{Params}

@@ -146,7 +146,7 @@ pub(crate) fn readings(p: TimingParams, c: Clock) -> TimingReadings
     };
     TimingReadings {
         values: values,
-        next_strobe: c.next_strobe(),
-        sps_estimate: c.sps_estimate(),
+        next_strobe: timing::next_strobe(c),
+        sps_estimate: c.omega,
     }
 }

@@ -1,6 +1,7 @@
 pub mod Refusal
 pub mod Answer
 pub mod Samples
-pub mod Each
+pub mod Buffers
 pub mod Calls
 pub mod Turn
+pub mod TurnedCall

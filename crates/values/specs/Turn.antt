@@ -4,7 +4,7 @@ use mathlib.Core.List.{List, map}
 use lib.Ieee.{neg}
 use Rattle.ieee.specs.Alike.{Alike}
 use Rattle.values.specs.declared.sample.C32.{C32}
-use Rattle.values.specs.Each.{Each}
+use Rattle.lists.specs.Each.{Each}
 
 abbrev pub turn : C32 → C32
 turn z = record { re = neg (z .im); im = z .re }

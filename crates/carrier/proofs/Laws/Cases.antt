@@ -1,51 +1,10 @@
--- Document 01's cases for the carrier: two octants, two of QPSK's measures, and the lock's rules at their ends. (The phase steps are in `modulate`.) Assumes nothing.
-use mathlib.Core.Path.{_≡_, refl}
-use mathlib.Core.Bool.{Bool, true, false}
-use lib.Ieee.{Float, binary32, ofBits, round, add, sub, mul, div, neg, lt, le}
-use Rattle.ieee.specs.Constants.{zero₀, half₀, one₀}
+-- The worked cases of the carrier loop hold. Assumes nothing.
+use mathlib.Core.Path.{refl}
+use lib.Ieee.{ofBits, round, add, sub, mul, div, neg, lt, le}
 use Rattle.ieee.specs.Magnitude.{magnitude}
-use Rattle.values.specs.declared.sample.C32.{C32}
-use Rattle.values.specs.Samples.{silence}
-use Rattle.carrier.specs.declared.constellation.CostasConstellation.the-variants.{Qpsk}
-use Rattle.carrier.specs.declared.lock.Metric.{Metric}
-use Rattle.carrier.specs.declared.lock.Metric.the-variants.{Number, Nothing}
 use Rattle.carrier.specs.Octant.{octantOf, decisionOf}
-use Rattle.carrier.specs.Lock.{quad, qpskMeasure, measured, metricOf, single, held}
-
--- (1, 1) and (0, 1)
-abbrev diagonal : C32
-diagonal = record { re = one₀; im = one₀ }
-
-abbrev upright : C32
-upright = record { re = zero₀; im = one₀ }
-
-abbrev qpskMetric : C32 → Metric
-qpskMetric y = metricOf Qpsk y (decisionOf Qpsk y)
-
--- the f32 next above 0.5 and the one next below 0.3
-abbrev above-half : Float
-above-half = ofBits binary32 0x3f000001
-
-abbrev below-three-tenths : Float
-below-three-tenths = ofBits binary32 0x3e999999
-
-pub record Cases : Type 0 where
-  -- "8-PSK (1, 1): octant 1"
-  pub octant-diagonal : octantOf diagonal ≡ 1
-  -- "(0, 1): 2"
-  pub octant-upright : octantOf upright ≡ 2
-  -- "QPSK measure (1, 1): 1"
-  pub qpsk-diagonal : qpskMetric diagonal ≡ Number one₀
-  -- "silence: none"
-  pub qpsk-silence : qpskMetric silence ≡ Nothing
-  -- "Level 0.5 sets no lock"
-  pub half-keeps : (was : Bool) → held was half₀ ≡ was
-  -- "0.3 clears none"
-  pub three-tenths-keeps : (was : Bool) → held was (single 3 10) ≡ was
-  -- "above 0.5 sets lock"
-  pub above-half-sets : (was : Bool) → held was above-half ≡ true
-  -- "below 0.3 clears it"
-  pub below-three-tenths-clears : (was : Bool) → held was below-three-tenths ≡ false
+use Rattle.carrier.specs.Lock.{quad, qpskMeasure, measured, metricOf, held}
+use Rattle.carrier.specs.Cases.{Cases}
 
 pub cases : Cases
 unfolding octantOf magnitude metricOf measured qpskMeasure quad held add sub mul div neg lt le round ofBits

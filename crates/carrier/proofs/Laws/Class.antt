@@ -7,9 +7,9 @@ use lib.IntN.{pos}
 use lib.Ieee.{Float, nan, inf, fin, neg, lt, le, eq}
 use lib.Ieee.Positive.{above}
 use Rattle.ieee.specs.Alike.{plain, signed, Alike}
-use Rattle.ieee.specs.Constants.{zero₀}
-use Rattle.ieee.proofs.Like.{like-zero}
-use Rattle.ieee.proofs.Compare.{isZero, zero-lt, lt-zero, eq-zero, eq-swap}
+use Rattle.ieee.specs.Notation.{zero₀}
+use Rattle.ieee.proofs.Laws.Like.{like-zero}
+use Rattle.ieee.proofs.Laws.Compare.{isZero, zero-lt, lt-zero, eq-zero, eq-swap}
 
 pub data Class : Type 0 where
   low nil high none : Class

@@ -3,7 +3,7 @@ use mathlib.Core.Path.{_≡_, _∙_, subst}
 use Prim.Native.Nat.{ℕ, zero, suc, _+_, _*_}
 use native.Mathlib.Nat.{suc-add}
 use native.Mathlib.Omega.{arith}
-use Rattle.ieee.proofs.Like.{like-flip, like-unnot, likes, crossed}
+use Rattle.ieee.proofs.Laws.Like.{like-flip, like-unnot, likes, crossed}
 use Rattle.values.specs.declared.sample.C32.{C32}
 use Rattle.values.specs.Turn.{turn, turns, AlikeSample, Turned}
 use Rattle.values.proofs.Laws.Turn.{alike-refl, alike-trans, alike-turn, alike-turns, turns-turn, turns-add, turns-four}

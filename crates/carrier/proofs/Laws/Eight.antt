@@ -2,11 +2,11 @@
 use mathlib.Core.Path.{_≡_, refl, ap, _∙_}
 use lib.Ieee.{Float, nan, binary32, neg, add, mul}
 use Rattle.ieee.specs.Alike.{Alike}
-use Rattle.ieee.proofs.Algebra.{add-swap, sub-is, mul-negs}
-use Rattle.ieee.proofs.Like.{like-refl, like-square, likes, crossed}
+use Rattle.ieee.proofs.Laws.Algebra.{add-swap, sub-is, mul-negs}
+use Rattle.ieee.proofs.Laws.Like.{like-refl, like-square, likes, crossed}
+use Rattle.ieee.specs.Notation.{_⊕_, _⊗_}
 use Rattle.values.specs.declared.sample.C32.{C32}
 use Rattle.values.specs.Turn.{turn, AlikeSample}
-use Rattle.timing.specs.Part.{_⊕_, _⊗_}
 use Rattle.carrier.specs.declared.constellation.CostasConstellation.the-variants.{Psk8}
 use Rattle.carrier.specs.Octant.{octantOf, pointAt, pointOf}
 use Rattle.carrier.specs.Detector.{detected}

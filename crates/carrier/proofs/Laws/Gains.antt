@@ -3,23 +3,24 @@ use mathlib.Core.Path.{subst}
 use lib.Dec.{T}
 use lib.Ieee.{Float, binary64, ofBits, round, add, mul, div, le, lt}
 use lib.Ieee.Scale.{finite}
-use Rattle.ieee.specs.Constants.{one₀, two₀}
-use Rattle.ieee.proofs.Span.{span-finite, point, add-span, mul-span, div-span}
+use Rattle.ieee.specs.Notation.{one₀, two₀, four₀, decimal}
+use Rattle.ieee.proofs.Laws.Span.{span-finite, point, add-span, mul-span, div-span}
 use Rattle.numbers.specs.Narrowing.{narrowed}
 use Rattle.numbers.proofs.Laws.Narrowing.{narrow-span}
-use Rattle.timing.specs.Setup.{decimal, inRange}
-use Rattle.timing.specs.Gains.{four₀, theta, divisor, proportional, integral}
+use Rattle.checks.specs.Range.{inRange}
+use Rattle.checks.proofs.Laws.Ranges.{in-span}
+use Rattle.gains.specs.Quotients.{theta, divisor, proportional, integral}
 use Rattle.carrier.specs.declared.params.Params.{Params}
 use Rattle.carrier.specs.Gains.{tau, kpOf, kiOf}
 use Rattle.carrier.specs.State.{paramsOf}
-use Rattle.carrier.proofs.Laws.Setup.{Limits, in-span}
+use Rattle.carrier.proofs.Laws.Setup.{Limits}
 
-pub gains-finite : (bw damping : Float) → T (inRange (decimal 1 10000) bw (decimal 2 10)) → T (inRange (decimal 1 10) damping (decimal 4 1)) → T (finite (kpOf bw damping)) × T (finite (kiOf bw damping))
+pub gains-finite : (bw damping : Float) → T (inRange (decimal binary64 1 10000) bw (decimal binary64 2 10)) → T (inRange (decimal binary64 1 10) damping (decimal binary64 4 1)) → T (finite (kpOf bw damping)) × T (finite (kiOf bw damping))
 unfolding kpOf kiOf proportional integral divisor theta narrowed add mul div le lt round ofBits
 gains-finite bw damping u v =
     let f = binary64 in
-    let b = in-span (decimal 1 10000) bw (decimal 2 10) tt tt u in
-    let d = in-span (decimal 1 10) damping (decimal 4 1) tt tt v in
+    let b = in-span (decimal binary64 1 10000) bw (decimal binary64 2 10) tt tt u in
+    let d = in-span (decimal binary64 1 10) damping (decimal binary64 4 1) tt tt v in
     let one = point one₀ tt tt in
     let four = point four₀ tt tt in
     let four-d = mul-span f four d tt in

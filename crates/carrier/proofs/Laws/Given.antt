@@ -7,19 +7,19 @@ use lib.Dec.{T, lit<, eqb}
 use lib.ListN.{length}
 use lib.Ieee.{Float, binary32, neg, mul, le, isNan}
 use lib.Ieee.Scale.{finite}
-use Rattle.ieee.specs.Constants.{zero₀}
-use Rattle.ieee.proofs.Number.{not-nan→number, add-number, mul-number}
-use Rattle.ieee.proofs.Order.{neg-le, neg-finite, le-trans-float, between}
+use Rattle.ieee.specs.Notation.{zero₀}
+use Rattle.ieee.proofs.Laws.Number.{not-nan→number, add-number, mul-number}
+use Rattle.ieee.proofs.Laws.Order.{neg-le, neg-finite, le-trans-float, between}
 use Rattle.values.specs.declared.error.Refusal.the-variants.{Uneven, Odd}
 use Rattle.values.specs.declared.sample.C32.{C32}
 use Rattle.values.specs.Samples.{samples}
+use Rattle.values.specs.Buffers.{oddEither}
 use Rattle.numbers.specs.Denormal.{flushed}
 use Rattle.numbers.specs.Narrowing.{narrowed}
 use Rattle.numbers.specs.Range.{limited}
 use Rattle.numbers.proofs.Laws.Denormal.{flush-number}
 use Rattle.numbers.proofs.Laws.Range.{limit-in}
 use Rattle.cosine.specs.Table.{cosList}
-use Rattle.timing.specs.Run.{oddEither}
 use Rattle.carrier.specs.declared.constellation.CostasConstellation.{CostasConstellation}
 use Rattle.carrier.specs.declared.filter.Nco.{Nco}
 use Rattle.carrier.specs.declared.params.Params.{Params}

@@ -5,10 +5,10 @@ use native.Mathlib.Omega.{arith}
 use mathlib.Core.Bool.{Bool, true, false, _&&_, _||_, cond}
 use lib.IntN.{ℤ}
 use lib.Ieee.{Float, nan, fin, lt, le}
-use Rattle.ieee.specs.Constants.{zero₀}
+use Rattle.ieee.specs.Notation.{zero₀}
 use Rattle.ieee.specs.Magnitude.{magnitude}
-use Rattle.ieee.proofs.Compare.{like-lt}
-use Rattle.ieee.proofs.Magnitude.{like-magnitude}
+use Rattle.ieee.proofs.Laws.Compare.{like-lt}
+use Rattle.ieee.proofs.Laws.Magnitude.{like-magnitude}
 use Rattle.values.specs.declared.sample.C32.{C32}
 use Rattle.values.specs.Turn.{AlikeSample}
 use Rattle.carrier.specs.Octant.{sizeOf, octantOf}

@@ -4,9 +4,9 @@ use Prim.Native.Nat.{ℕ, _+_, _%_}
 use mathlib.Core.Bool.{Bool, true, false, cond}
 use lib.Ieee.{nan, neg}
 use Rattle.ieee.specs.Magnitude.{magnitude}
-use Rattle.ieee.proofs.Like.{like-refl, like-sym, like-trans, like-minus}
-use Rattle.ieee.proofs.Compare.{like-lt}
-use Rattle.ieee.proofs.Magnitude.{like-magnitude}
+use Rattle.ieee.proofs.Laws.Like.{like-refl, like-sym, like-trans, like-minus}
+use Rattle.ieee.proofs.Laws.Compare.{like-lt}
+use Rattle.ieee.proofs.Laws.Magnitude.{like-magnitude}
 use Rattle.values.specs.declared.sample.C32.{C32}
 use Rattle.values.specs.Turn.{turn, AlikeSample}
 use Rattle.carrier.specs.Octant.{octantOf}

@@ -11,18 +11,16 @@ use lib.Ieee.{Float, nan, inf, fin, binary32, round, neg, add, sub, mul, le, lt,
 use lib.Ieee.Fits.{mul-fits}
 use lib.Ieee.Scale.{finite}
 use lib.Ieee.Positive.{den}
-use Rattle.ieee.specs.Constants.{zero₀, one₀}
+use Rattle.ieee.specs.Notation.{zero₀, one₀, _⊕_, _⊖_, _⊗_, four₀, _⊘_}
 use Rattle.ieee.specs.Fraction.{plus, less}
-use Rattle.ieee.proofs.Algebra.{add-swap, mul-negs}
-use Rattle.ieee.proofs.Order.{finite-number, not-le→lt, lt→le, lt→cross, less-none}
-use Rattle.ieee.proofs.Like.{like-refl, like-square, like-sub-x}
-use Rattle.ieee.proofs.NotFinite.{finite-difference, finite-product, quotient-nan, AtLeast, sum-at-least, difference-at-least, product-at-least, square-at-least, at-least-inf}
-use Rattle.ieee.proofs.Scaled.{scaled-swap}
+use Rattle.ieee.proofs.Laws.Algebra.{add-swap, mul-negs}
+use Rattle.ieee.proofs.Laws.Order.{finite-number, not-le→lt, lt→le, lt→cross, less-none}
+use Rattle.ieee.proofs.Laws.Like.{like-refl, like-square, like-sub-x}
+use Rattle.ieee.proofs.Laws.NotFinite.{finite-difference, finite-product, quotient-nan, AtLeast, sum-at-least, difference-at-least, product-at-least, square-at-least, at-least-inf}
+use Rattle.ieee.proofs.Laws.Scaled.{scaled-swap}
 use Rattle.values.specs.declared.sample.C32.{C32}
 use Rattle.values.specs.Turn.{turn, AlikeSample}
-use Rattle.timing.specs.Part.{_⊕_, _⊖_, _⊗_}
-use Rattle.timing.specs.Gains.{four₀}
-use Rattle.carrier.specs.Lock.{_⊘_, square, quad, qpskMeasure}
+use Rattle.carrier.specs.Lock.{square, quad, qpskMeasure}
 
 -- (4 × a) × b - g × g
 abbrev upper : Float → Float → Float

@@ -6,9 +6,9 @@ use borrow.Author.Tests.{eqb-true, eq-eqb, ne-eqb}
 use lib.Dec.{eqb}
 use lib.ListN.{length}
 use lib.Ieee.{Float}
-use Rattle.ieee.proofs.Test.{both-tests}
+use Rattle.ieee.proofs.Laws.Test.{both-tests}
 use Rattle.values.specs.declared.error.Refusal.the-variants.{Uneven, Odd}
-use Rattle.timing.specs.Run.{oddEither}
+use Rattle.values.specs.Buffers.{oddEither}
 use Rattle.carrier.specs.declared.state.CostasState.{CostasState}
 use Rattle.carrier.specs.Run.{Outcome, turnedAway, done, called, accepts}
 

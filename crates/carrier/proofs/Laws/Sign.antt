@@ -3,12 +3,12 @@ use mathlib.Core.Path.{_≡_, refl, sym, ap, _∙_}
 use mathlib.Core.Bool.{Bool, true, false, cond}
 use lib.Dec.{T}
 use lib.Ieee.{Float, binary32, ofBits, neg, lt, fits}
-use Rattle.ieee.specs.Constants.{zero₀, one₀}
-use Rattle.ieee.proofs.Algebra.{mul-neg}
-use Rattle.ieee.proofs.Test.{yes}
-use Rattle.ieee.proofs.Order.{lt→le, le→not-lt}
-use Rattle.ieee.proofs.Exact.{one-times}
-use Rattle.timing.specs.Part.{signOf, _⊗_}
+use Rattle.ieee.specs.Notation.{zero₀, one₀, _⊗_}
+use Rattle.ieee.proofs.Laws.Algebra.{mul-neg}
+use Rattle.ieee.proofs.Laws.Test.{yes}
+use Rattle.ieee.proofs.Laws.Order.{lt→le, le→not-lt}
+use Rattle.ieee.proofs.Laws.Exact.{one-times}
+use Rattle.numbers.specs.Sign.{signOf}
 use Rattle.carrier.specs.Octant.{sizeOf}
 
 -- by the two tests

@@ -5,8 +5,8 @@ use mathlib.Core.Bool.{true, false, cond}
 use lib.Ieee.{Float, nan, inf, fin, neg, lt}
 use Rattle.ieee.specs.Alike.{Alike}
 use Rattle.ieee.specs.Magnitude.{magnitude}
-use Rattle.ieee.proofs.Like.{like-refl, like-zero}
-use Rattle.ieee.proofs.Compare.{like-lt}
+use Rattle.ieee.proofs.Laws.Like.{like-refl, like-zero}
+use Rattle.ieee.proofs.Laws.Compare.{like-lt}
 use Rattle.carrier.specs.Octant.{sizeOf}
 use Rattle.carrier.proofs.Laws.Class.{class, flip, isHigh, below-zero}
 

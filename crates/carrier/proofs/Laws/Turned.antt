@@ -7,18 +7,18 @@ use mathlib.Core.List.{List}
 use lib.Dec.{eqb}
 use lib.ListN.{length}
 use lib.Ieee.{Float}
-use Rattle.ieee.specs.Constants.{zero₀}
-use Rattle.ieee.proofs.Like.{like-refl}
+use Rattle.ieee.specs.Notation.{zero₀}
+use Rattle.ieee.proofs.Laws.Like.{like-refl}
 use Rattle.values.specs.declared.sample.C32.{C32}
 use Rattle.values.specs.declared.error.Refusal.the-variants.{Uneven, Odd}
 use Rattle.values.specs.Samples.{samples, parts}
-use Rattle.values.specs.Each.{Each, none, more}
+use Rattle.lists.specs.Each.{Each, none, more}
 use Rattle.values.specs.Turn.{AllTurned, Turned}
 use Rattle.values.proofs.Laws.Calls.{lists-keep}
 use Rattle.values.proofs.Laws.Samples.{samples-parts}
 use Rattle.values.proofs.Laws.Turn.{turned-mod}
-use Rattle.timing.specs.Run.{oddEither}
-use Rattle.timing.specs.Calls.{Call, TurnedCall}
+use Rattle.values.specs.Buffers.{oddEither}
+use Rattle.values.specs.TurnedCall.{Call, TurnedCall}
 use Rattle.carrier.specs.declared.constellation.CostasConstellation.{CostasConstellation}
 use Rattle.carrier.specs.declared.params.Params.{Params}
 use Rattle.carrier.specs.declared.state.CostasState.{CostasState}

@@ -7,11 +7,11 @@ use mathlib.Core.List.{List}
 use lib.Ieee.{Float, binary32}
 use lib.Ieee.Scale.{finite}
 use Rattle.ieee.specs.Alike.{Alike}
-use Rattle.ieee.specs.Constants.{zero₀, half₀}
-use Rattle.ieee.proofs.Like.{like-refl, like-add, like-sub, like-mul-r}
-use Rattle.ieee.proofs.Compare.{like-lt, like-cond, like-finite}
+use Rattle.ieee.specs.Notation.{zero₀, half₀, decimal}
+use Rattle.ieee.proofs.Laws.Like.{like-refl, like-add, like-sub, like-mul-r}
+use Rattle.ieee.proofs.Laws.Compare.{like-lt, like-cond, like-finite}
 use Rattle.values.specs.declared.sample.C32.{C32}
-use Rattle.values.specs.Each.{none, more}
+use Rattle.lists.specs.Each.{none, more}
 use Rattle.values.specs.Turn.{Turned, AllTurned}
 use Rattle.numbers.proofs.Laws.Denormal.{like-flush}
 use Rattle.numbers.proofs.Laws.Range.{alike-limit}
@@ -29,7 +29,7 @@ use Rattle.carrier.specs.declared.lock.Metric.the-variants.{Number, Noth
 use Rattle.carrier.specs.declared.symbol.Track.{Track}
 use Rattle.carrier.specs.Octant.{decisionOf}
 use Rattle.carrier.specs.Detector.{derotated, calmed, errorOf}
-use Rattle.carrier.specs.Lock.{single, metricOf, smoothed, held, watched}
+use Rattle.carrier.specs.Lock.{metricOf, smoothed, held, watched}
 use Rattle.carrier.specs.Filter.{newFreq, advanced}
 use Rattle.carrier.specs.Step.{stepped, outputOf, Symbols, runs}
 use Rattle.carrier.specs.Calls.{Allowed}
@@ -74,11 +74,11 @@ module _ (p : Params) {a b : Float} (e : Alike b a) where
 -- ---- the lock detector, of the same measure
 alike-smoothed : {l k : Float} (m : Float) → Alike l k → Alike (smoothed l m) (smoothed k m)
 unfolding smoothed
-alike-smoothed m p = like-flush binary32 (like-add binary32 p (like-mul-r binary32 (like-refl (single 1 100)) (like-sub binary32 (like-refl m) p)))
+alike-smoothed m p = like-flush binary32 (like-add binary32 p (like-mul-r binary32 (like-refl (decimal binary32 1 100)) (like-sub binary32 (like-refl m) p)))
 
 same-held : {a b : Bool} {l k : Float} → a ≡ b → Alike l k → held a l ≡ held b k
 unfolding held
-same-held e p = rw (e, like-lt (like-refl half₀) p, like-lt p (like-refl (single 3 10)))
+same-held e p = rw (e, like-lt (like-refl half₀) p, like-lt p (like-refl (decimal binary32 3 10)))
 
 alike-watched : {k l : Lock} (m : Metric) → AlikeLock k l → AlikeLock (watched k m) (watched l m)
 unfolding watched

@@ -4,11 +4,11 @@ use Prim.Native.Nat.{ℕ, zero, suc, _+_, _*_, _%_}
 use native.Mathlib.Omega.{arith}
 use lib.Ieee.{Float, binary32}
 use Rattle.ieee.specs.Alike.{Alike}
-use Rattle.ieee.proofs.Algebra.{mul-negs}
-use Rattle.ieee.proofs.Like.{like-refl, like-trans, like-then, like-square, likes, crossed}
+use Rattle.ieee.proofs.Laws.Algebra.{mul-negs}
+use Rattle.ieee.proofs.Laws.Like.{like-refl, like-trans, like-then, like-square, likes, crossed}
 use Rattle.values.specs.declared.sample.C32.{C32}
 use Rattle.values.specs.Turn.{turn, turns, AlikeSample, Turned}
-use Rattle.timing.proofs.Laws.Turning.{sign-neg, alike-sign}
+use Rattle.numbers.proofs.Laws.Sign.{sign-neg, alike-sign}
 use Rattle.carrier.specs.declared.constellation.CostasConstellation.{CostasConstellation}
 use Rattle.carrier.specs.declared.constellation.CostasConstellation.the-variants.{Bpsk, Qpsk, Psk8}
 use Rattle.carrier.specs.Octant.{decisionOf}

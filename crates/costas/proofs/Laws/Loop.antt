@@ -1,18 +1,19 @@
 -- The loop over the symbols: what the definition makes of the rest of the input, stored behind what is done, is what it makes of the whole. Assumes nothing.
 use mathlib.Core.Path.{_≡_, refl, sym, ap, _∙_, subst}
-use Prim.Native.Nat.{ℕ, suc, _+_, _*_, _/_, _%_, _^_, _≤_, _<_}
+use Prim.Native.Nat.{ℕ, suc, _+_, _*_, _/_, _^_, _≤_, _<_, min}
+use native.Mathlib.Nat.{zero-add}
 use native.Mathlib.Numerals.{add-one}
 use native.Mathlib.Omega.{arith}
 use mathlib.Core.Bool.{Bool, true, false, cond}
-use mathlib.Core.List.{List, [], _∷_, _++_, append-nil}
+use mathlib.Core.List.{List, [], _∷_}
 use lib.Dec.{ltb}
-use lib.ListN.{length, getD, drop, drop-of-length-le}
-use lib.Seq.{sets, sets-eq, length-sets, drop-cons}
+use lib.ListN.{length, getD, take, drop, length-take, drop-of-length-le}
+use lib.Seq.{sets, sets-eq, length-sets, drop-cons, getD-take}
 use lib.Ieee.{Float}
 use Rattle.values.specs.declared.sample.C32.{C32}
 use Rattle.values.specs.Samples.{silence, samples, parts, stored}
-use Rattle.values.proofs.Laws.Samples.{length-samples, length-parts, stored-sets}
-use Rattle.timing.proofs.Laws.Shown.{parts-none, parts-some}
+use Rattle.values.specs.Buffers.{written}
+use Rattle.values.proofs.Laws.Samples.{length-samples, samples-take, length-parts, stored-sets, parts-none, parts-some}
 use Rattle.carrier.specs.declared.constellation.CostasConstellation.{CostasConstellation}
 use Rattle.carrier.specs.declared.params.Params.{Params}
 use Rattle.carrier.specs.declared.symbol.Track.{Track}
@@ -52,29 +53,34 @@ stored-length ys k y = by (ltb k (length ys / 2))
     by true = length-sets ys (2 * k) (y .re ∷ y .im ∷ [])
     by false = refl
 
--- stored over as many
-whole : (ys vs : List Float) → length ys ≡ length vs → sets ys 0 vs ≡ vs
-whole ys vs e =
-    let z : 0 + length vs ≤ length ys = omega arith in
-    sets-eq vs ys 0 z ∙ ap (λ (l : List Float). vs ++ l) (drop-of-length-le ys {i = 0 + length vs} (omega arith)) ∙ append-nil vs
-
--- ---- the invariant: k of n symbols are done, with the track t and the output ys
-pub record Underway (table : List Float) (c : CostasConstellation) (p : Params) (xs : List Float) (n : ℕ) (t₀ : Track) (ys₀ : List Float) (t : Track) (ys : List Float) (k : ℕ) : Type 0 where
-  pub count : length (samples xs) ≡ n
-  pub room : length ys ≡ 2 * n
-  pub room₀ : length ys₀ ≡ 2 * n
+-- ---- the invariant: k of the n symbols l are done, with the track t and the output ys
+pub record Underway (table : List Float) (c : CostasConstellation) (p : Params) (l : List C32) (n : ℕ) (t₀ : Track) (ys₀ : List Float) (t : Track) (ys : List Float) (k : ℕ) : Type 0 where
+  pub count : length l ≡ n
+  pub room : length ys ≡ length ys₀
+  pub room₀ : n ≤ length ys₀ / 2
   pub done : k ≤ n
   pub small : n < 2 ^ 61
-  pub last : runs table c p t (drop k (samples xs)) .last ≡ runs table c p t₀ (samples xs) .last
-  pub shows : shown ys k (runs table c p t (drop k (samples xs))) ≡ shown ys₀ 0 (runs table c p t₀ (samples xs))
+  pub last : runs table c p t (drop k l) .last ≡ runs table c p t₀ l .last
+  pub shows : shown ys k (runs table c p t (drop k l)) ≡ shown ys₀ 0 (runs table c p t₀ l)
 
-module _ {table : List Float} {c : CostasConstellation} {p : Params} {xs : List Float} {n : ℕ} {t₀ : Track} {ys₀ : List Float} where
-  pub begins : length xs % 2 ≡ 0 → length ys₀ ≡ length xs → n ≡ length xs / 2 → n < 2 ^ 61 → Underway table c p xs n t₀ ys₀ t₀ ys₀ 0
-  begins even equal e small = record { count = length-samples xs ∙ sym e; room = omega arith; room₀ = omega arith; done = omega arith; small = small; last = refl; shows = refl }
+-- the symbols that the input xs and an output with room for m hold
+abbrev pub held : List Float → ℕ → List C32
+held xs m = samples (take (2 * m) xs)
 
-  module _ {t : Track} {ys : List Float} {k : ℕ} (u : Underway table c p xs n t₀ ys₀ t ys k) where
+held-count : (xs : List Float) (m : ℕ) → length (held xs m) ≡ min (length xs / 2) m
+held-count xs m = ap length (samples-take m xs) ∙ length-take m (samples xs) ∙ omega (arith, length-samples xs)
+
+-- the sample that the loop reads is one of them
+pub held-read : (xs : List Float) (m k : ℕ) → k < length (held xs m) → {x : C32} → x ≡ getD (samples xs) k silence → x ≡ getD (held xs m) k silence
+held-read xs m k h e = e ∙ sym (getD-take m (samples xs) k silence (omega (arith, held-count xs m))) ∙ ap (λ (l : List C32). getD l k silence) (sym (samples-take m xs))
+
+module _ {table : List Float} {c : CostasConstellation} {p : Params} {n : ℕ} {t₀ : Track} {ys₀ : List Float} where
+  pub begins : (xs : List Float) → n ≡ min (length xs / 2) (length ys₀ / 2) → n < 2 ^ 61 → Underway table c p (held xs (length ys₀ / 2)) n t₀ ys₀ t₀ ys₀ 0
+  begins xs e small = record { count = held-count xs (length ys₀ / 2) ∙ sym e; room = refl; room₀ = omega arith; done = omega arith; small = small; last = refl; shows = refl }
+
+  module _ {l : List C32} {t : Track} {ys : List Float} {k : ℕ} (u : Underway table c p l n t₀ ys₀ t ys k) where
     -- the output y of the sample x is stored, and v is the track after it
-    pub goes-on : k < n → {x : C32} → x ≡ getD (samples xs) k silence → {y : C32} → y ≡ outputOf table t x → {v : Track} → v ≡ stepped c p t y → {zs : List Float} → zs ≡ stored ys k y → Underway table c p xs n t₀ ys₀ v zs (k + 1)
+    pub goes-on : k < n → {x : C32} → x ≡ getD l k silence → {y : C32} → y ≡ outputOf table t x → {v : Track} → v ≡ stepped c p t y → {zs : List Float} → zs ≡ stored ys k y → Underway table c p l n t₀ ys₀ v zs (k + 1)
     goes-on left {x} e {y} f {v} g {zs} h =
         record {
           count = u .count;
@@ -83,27 +89,29 @@ module _ {table : List Float} {c : CostasConstellation} {p : Params} {xs : List 
           done = omega arith;
           small = u .small;
           last = ap (λ (r : Symbols). r .last) (sym step) ∙ u .last;
-          shows = ap (λ (l : List Float). shown l (k + 1) rest) h ∙ sym (shown-more ys k y rest (let a = u .room in omega arith)) ∙ ap (shown ys k) (sym step) ∙ u .shows;
+          shows = ap (λ (m : List Float). shown m (k + 1) rest) h ∙ sym (shown-more ys k y rest (let a = u .room in let b = u .room₀ in omega arith)) ∙ ap (shown ys k) (sym step) ∙ u .shows;
         }
       where
         rest : Symbols
-        rest = runs table c p v (drop (k + 1) (samples xs))
+        rest = runs table c p v (drop (k + 1) l)
 
-        step : runs table c p t (drop k (samples xs)) ≡ more y rest
+        step : runs table c p t (drop k l) ≡ more y rest
         step =
-            runs-turn table c p t (samples xs) k (let a = u .count in omega arith)
-            ∙ ap (λ (z : C32). more (outputOf table t z) (runs table c p (stepped c p t (outputOf table t z)) (drop (k + 1) (samples xs)))) (sym e)
-            ∙ ap (λ (z : C32). more z (runs table c p (stepped c p t z) (drop (k + 1) (samples xs)))) (sym f)
-            ∙ ap (λ (w : Track). more y (runs table c p w (drop (k + 1) (samples xs)))) (sym g)
+            runs-turn table c p t l k (let a = u .count in omega arith)
+            ∙ ap (λ (z : C32). more (outputOf table t z) (runs table c p (stepped c p t (outputOf table t z)) (drop (k + 1) l))) (sym e)
+            ∙ ap (λ (z : C32). more z (runs table c p (stepped c p t z) (drop (k + 1) l))) (sym f)
+            ∙ ap (λ (w : Track). more y (runs table c p w (drop (k + 1) l))) (sym g)
 
-    all-done : n ≤ k → (t ≡ runs table c p t₀ (samples xs) .last) × (ys ≡ parts (runs table c p t₀ (samples xs) .values))
+    all-done : n ≤ k → (t ≡ runs table c p t₀ l .last) × (ys ≡ written (parts (runs table c p t₀ l .values)) ys₀)
     all-done full =
-        let none = drop-of-length-le (samples xs) {i = k} (let a = u .count in omega arith) in
-        let e = ap (runs table c p t) none ∙ runs-none table c p t in (
+        let none = drop-of-length-le l {i = k} (let a = u .count in omega arith) in
+        let e = ap (runs table c p t) none ∙ runs-none table c p t in
+        let vs = parts (runs table c p t₀ l .values) in
+        let z : 0 + length vs ≤ length ys₀ = (let a = length-parts (runs table c p t₀ l .values) in let b = runs-count table c p t₀ l in let d = u .count in let f = u .room₀ in omega arith) in (
           sym (ap (λ (r : Symbols). r .last) e) ∙ u .last,
-          sym (ap (shown ys k) e ∙ ap (sets ys (2 * k)) parts-none) ∙ u .shows ∙ whole ys₀ (parts (runs table c p t₀ (samples xs) .values)) (let a = length-parts (runs table c p t₀ (samples xs) .values) in let b = runs-count table c p t₀ (samples xs) in let d = u .count in let f = u .room₀ in omega arith),
+          sym (ap (shown ys k) e ∙ ap (sets ys (2 * k)) parts-none) ∙ u .shows ∙ (rw zero-add at (sets-eq vs ys₀ 0 z)),
         )
 
     -- all symbols are done, with the table that `list` is
-    pub ends : n ≤ k → {list : List Float} → table ≡ list → (t ≡ runs list c p t₀ (samples xs) .last) × (ys ≡ parts (runs list c p t₀ (samples xs) .values))
-    ends full e = subst (λ (l : List Float). (t ≡ runs l c p t₀ (samples xs) .last) × (ys ≡ parts (runs l c p t₀ (samples xs) .values))) e (all-done full)
+    pub ends : n ≤ k → {list : List Float} → table ≡ list → (t ≡ runs list c p t₀ l .last) × (ys ≡ written (parts (runs list c p t₀ l .values)) ys₀)
+    ends full e = subst (λ (m : List Float). (t ≡ runs m c p t₀ l .last) × (ys ≡ written (parts (runs m c p t₀ l .values)) ys₀)) e (all-done full)

@@ -2,11 +2,11 @@
 use mathlib.Core.Path.{_≡_, refl}
 use Prim.Native.Nat.{ℕ, _^_, _<_}
 use lib.Ieee.{binary32, round, add, sub, mul, ofBits}
-use Rattle.ieee.specs.Constants.{zero₀, half₀, one₀}
+use Rattle.ieee.specs.Notation.{zero₀, half₀, one₀}
 use Rattle.values.specs.Turn.{Turned}
 use Rattle.cosine.specs.Bits.{cosBits}
 use Rattle.cosine.specs.Table.{cosList, cosAt}
-use Rattle.cosine.proofs.Rules.{cos-rules}
+use Rattle.cosine.proofs.Laws.Rules.{cos-rules}
 use Rattle.mix.specs.Oscillator.{pairAt}
 use Rattle.mix.specs.Quarter.{quartersOn, sampleOf}
 use Rattle.mix.proofs.Laws.Quarter.{quarter-turns}

@@ -7,11 +7,11 @@ use mathlib.Core.Bool.{false}
 use lib.Pow.{pow-pos, pow-add}
 use lib.Ieee.{Float, binary32, round, add, sub, ofBits}
 use lib.Ieee.Exact.{HasValue}
-use Rattle.ieee.specs.Constants.{one₀}
-use Rattle.ieee.proofs.Bits.{normal-value}
-use Rattle.ieee.proofs.Exact.{parts-exact, same-value}
-use Rattle.ieee.proofs.Order.{has-val}
-use Rattle.ieee.proofs.Rounds.{Rounds, high, deep, sub-at}
+use Rattle.ieee.specs.Notation.{one₀}
+use Rattle.ieee.proofs.Laws.Bits.{normal-value}
+use Rattle.ieee.proofs.Laws.Exact.{parts-exact, same-value}
+use Rattle.ieee.proofs.Laws.Order.{has-val}
+use Rattle.ieee.proofs.Laws.Rounds.{Rounds, high, deep, sub-at}
 use Rattle.mix.specs.Oscillator.{fraction}
 
 -- 1 + n / 2^20

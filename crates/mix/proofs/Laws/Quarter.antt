@@ -8,8 +8,8 @@ use mathlib.Core.List.{List}
 use lib.ListN.{getD}
 use lib.Ieee.{Float, nan}
 use Rattle.ieee.specs.Alike.{Opposite}
-use Rattle.ieee.proofs.Test.{order}
-use Rattle.ieee.proofs.Like.{likes, like-sym, like-flip, like-of-eq}
+use Rattle.ieee.proofs.Laws.Test.{order}
+use Rattle.ieee.proofs.Laws.Like.{likes, like-sym, like-flip, like-of-eq}
 use Rattle.values.specs.Turn.{turns, Turned}
 use Rattle.values.proofs.Laws.Turn.{alike-refl, turned-add}
 use Rattle.mix.specs.Oscillator.{fraction, between, quarterBefore, pairAt}

@@ -15,12 +15,12 @@ use lib.Ieee.Bits.{ofBits-toBits, toBits-lt}
 use lib.Ieee.Exact.{HasValue}
 use lib.Ieee.Scale.{finite}
 use borrow.Author.Tests.{lt-ltb, le-ltb}
-use Rattle.ieee.proofs.Test.{order}
-use Rattle.ieee.proofs.Nan.{finite-not-nan}
-use Rattle.ieee.proofs.Round.{neg-value}
-use Rattle.ieee.proofs.Held.{pow-below}
-use Rattle.ieee.proofs.Bits.{low-value, normal-value, sign-bit}
-use Rattle.ieee.proofs.Order.{has-val, lt→vals, inside-finite}
+use Rattle.ieee.proofs.Laws.Test.{order}
+use Rattle.ieee.proofs.Laws.Nan.{finite-not-nan}
+use Rattle.ieee.proofs.Laws.Round.{neg-value}
+use Rattle.ieee.proofs.Laws.Held.{pow-below}
+use Rattle.ieee.proofs.Laws.Bits.{low-value, normal-value, sign-bit}
+use Rattle.ieee.proofs.Laws.Order.{has-val, lt→vals, inside-finite}
 use Rattle.modulate.specs.Step.{wrapped, rounded, phaseStep, small}
 use Rattle.modulate.proofs.Laws.Rounded.{rounded-same, rounded-small, step-of}
 use Rattle.modulate.proofs.Laws.StepBits.{quotient, shift-halved, shift-small, shift-room}

@@ -14,11 +14,11 @@ use lib.Ieee.Exact.{HasValue}
 use lib.Ieee.Scale.{finite}
 use lib.Ieee.Positive.{den, den-pos}
 use Rattle.ieee.specs.Fraction.{plus, less}
-use Rattle.ieee.proofs.Nan.{finite-not-nan}
-use Rattle.ieee.proofs.Order.{Val, own-val, val-has, val-same, lt→vals, le→vals, not-lt→le, finite-number, inside-finite, inside-size}
-use Rattle.ieee.proofs.Rounds.{add-at, sub-at}
-use Rattle.ieee.proofs.Exact.{rounds-whole}
-use Rattle.ieee.proofs.Bits.{whole-bits}
+use Rattle.ieee.proofs.Laws.Nan.{finite-not-nan}
+use Rattle.ieee.proofs.Laws.Order.{Val, own-val, val-has, val-same, lt→vals, le→vals, not-lt→le, finite-number, inside-finite, inside-size}
+use Rattle.ieee.proofs.Laws.Rounds.{add-at, sub-at}
+use Rattle.ieee.proofs.Laws.Exact.{rounds-whole}
+use Rattle.ieee.proofs.Laws.Bits.{whole-bits}
 use Rattle.numbers.specs.Whole.{floorPlus, floorLess}
 use Rattle.numbers.proofs.Laws.Whole.{floor-under, floor-next, floor-size}
 use Rattle.numbers.proofs.Laws.Nearby.{lands}

@@ -9,7 +9,7 @@ use lib.Ieee.{Float, nan, inf, fin, up, down}
 use lib.Ieee.Fits.{down-pos}
 use lib.Ieee.Exact.{HasValue}
 use borrow.Author.Tests.{lt-leb}
-use Rattle.ieee.proofs.Test.{order}
+use Rattle.ieee.proofs.Laws.Test.{order}
 use Rattle.modulate.specs.Step.{wrapped, halfMore, rounded, phaseStep}
 
 -- ---- ±n is floor(±a / c + 1/2): ±n ≤ ±a / c + 1/2 < ±n + 1, times 2 c

@@ -13,15 +13,15 @@ use lib.Ieee.{Float, nan, inf, fin, binary32, binary64, up, down, round, add, mu
 use lib.Ieee.Fits.{down-pos}
 use lib.Ieee.Scale.{finite}
 use lib.Ieee.Positive.{den, den-pos}
-use Rattle.ieee.specs.Constants.{zero₀, half₀}
+use Rattle.ieee.specs.Notation.{zero₀, half₀}
 use Rattle.ieee.specs.Fraction.{plus, less}
-use Rattle.ieee.proofs.Test.{order}
-use Rattle.ieee.proofs.Order.{Val, own-val, has-val, cross→le, le→vals, between}
-use Rattle.ieee.proofs.Rounds.{Rounds, high, deep, rounds-same, mul-at, add-at}
-use Rattle.ieee.proofs.Held.{fits-parts, pow-back, on-grid, rounds-above, rounds-below}
-use Rattle.ieee.proofs.Exact.{Exact, rounds-one-sided, rounds-exact, parts-exact}
-use Rattle.ieee.proofs.Mono.{add-mono, mul-mono-left}
-use Rattle.ieee.proofs.Even.{round-even}
+use Rattle.ieee.proofs.Laws.Test.{order}
+use Rattle.ieee.proofs.Laws.Order.{Val, own-val, has-val, cross→le, le→vals, between}
+use Rattle.ieee.proofs.Laws.Rounds.{Rounds, high, deep, rounds-same, mul-at, add-at}
+use Rattle.ieee.proofs.Laws.Held.{fits-parts, pow-back, on-grid, rounds-above, rounds-below}
+use Rattle.ieee.proofs.Laws.Exact.{Exact, rounds-one-sided, rounds-exact, parts-exact}
+use Rattle.ieee.proofs.Laws.Mono.{add-mono, mul-mono-left}
+use Rattle.ieee.proofs.Laws.Even.{round-even}
 use Rattle.modulate.specs.Step.{stepOf, stepped, phaseStep, turn₀}
 use Rattle.modulate.proofs.Laws.Rounded.{Wraps}
 use Rattle.modulate.proofs.Laws.Stepped.{Floor, Sized, end, floor-same, stepped-at, stepped-top, stepped-bottom, phase-step-floor, phase-step-end}

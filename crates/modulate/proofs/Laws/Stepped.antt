@@ -13,7 +13,7 @@ use lib.Ieee.Scale.{finite}
 use lib.Ieee.Positive.{den, den-pos}
 use borrow.Author.Tests.{le-leb, lt-leb}
 use Rattle.ieee.specs.Fraction.{plus, less}
-use Rattle.ieee.proofs.Order.{Val, own-val, ineq, ineq-lt, le→cross}
+use Rattle.ieee.proofs.Laws.Order.{Val, own-val, ineq, ineq-lt, le→cross}
 use Rattle.numbers.specs.Whole.{wholeDown, floorPlus, floorLess}
 use Rattle.numbers.proofs.Laws.Whole.{floor-under, floor-next}
 use Rattle.modulate.specs.Step.{wrapped, rounded, castEnd, stepped, phaseStep}

@@ -8,13 +8,13 @@ use lib.IntN.{pos}
 use lib.Ieee.{Float, Format, binary32, binary64, round, neg, le, lt}
 use lib.Ieee.Scale.{finite}
 use Rattle.ieee.specs.Alike.{Like}
-use Rattle.ieee.specs.Constants.{zero₀}
+use Rattle.ieee.specs.Notation.{zero₀}
 use Rattle.ieee.specs.Magnitude.{magnitude}
 use Rattle.numbers.specs.Denormal.{tiny, flushed}
-use Rattle.ieee.proofs.Like.{like-refl, like-zero}
-use Rattle.ieee.proofs.Order.{number}
-use Rattle.ieee.proofs.Compare.{like-lt, like-cond}
-use Rattle.ieee.proofs.Magnitude.{magnitude-lt, like-magnitude}
+use Rattle.ieee.proofs.Laws.Like.{like-refl, like-zero}
+use Rattle.ieee.proofs.Laws.Order.{number}
+use Rattle.ieee.proofs.Laws.Compare.{like-lt, like-cond}
+use Rattle.ieee.proofs.Laws.Magnitude.{magnitude-lt, like-magnitude}
 
 -- ---- one of two
 pub flush-or : (f : Format) (x : Float) → (flushed f x ≡ zero₀) ⊎ (flushed f x ≡ x)

@@ -11,16 +11,16 @@ use lib.Ieee.Fits.{down-pos, round-fits, nan-fits, inf-fits}
 use lib.Ieee.Exact.{HasValue}
 use lib.Ieee.Scale.{finite, round-same}
 use lib.Ieee.Positive.{den, den-pos}
-use Rattle.ieee.specs.Constants.{zero₀, one₀}
+use Rattle.ieee.specs.Notation.{zero₀, one₀}
 use Rattle.ieee.specs.Alike.{plain, signed, Like}
 use Rattle.ieee.specs.Fraction.{plus, less}
-use Rattle.ieee.proofs.Order.{le→cross, between}
-use Rattle.ieee.proofs.Span.{Span, span-finite, low-finite}
-use Rattle.ieee.proofs.Exact.{round-own}
-use Rattle.ieee.proofs.Round.{round-neg, round-zero, round-number}
-use Rattle.ieee.proofs.Rounds.{Rounds, at-high, at-deep, rounds-mono}
+use Rattle.ieee.proofs.Laws.Order.{le→cross, between}
+use Rattle.ieee.proofs.Laws.Span.{Span, span-finite, low-finite}
+use Rattle.ieee.proofs.Laws.Exact.{round-own}
+use Rattle.ieee.proofs.Laws.Round.{round-neg, round-zero, round-number}
+use Rattle.ieee.proofs.Laws.Rounds.{Rounds, at-high, at-deep, rounds-mono}
 use Rattle.numbers.specs.Narrowing.{narrowed}
-use Rattle.ieee.proofs.Bits.{withSign}
+use Rattle.ieee.proofs.Laws.Bits.{withSign}
 
 -- ---- only the value counts
 pub narrow-value : (x : Float) (s : Bool) (a c : ℕ) → 0 < c → HasValue x s a c → narrowed x ≡ round binary32 s a c

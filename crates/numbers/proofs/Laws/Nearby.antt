@@ -12,18 +12,18 @@ use lib.Ieee.{Float, fin, binary64, round, add, sub, neg, le, lt, eq, fits}
 use lib.Ieee.Fits.{add-fits}
 use lib.Ieee.Scale.{finite}
 use lib.Ieee.Positive.{den, den-pos}
-use Rattle.ieee.specs.Constants.{zero₀, one₀}
+use Rattle.ieee.specs.Notation.{zero₀, one₀}
 use Rattle.ieee.specs.Fraction.{plus, less}
-use Rattle.ieee.proofs.Compare.{eq-swap}
-use Rattle.ieee.proofs.Order.{Val, own-val, vals→le, le→vals, lt→vals, le→cross, lt→cross, not-lt→le, finite-number, between, neg-val, les→eq, eq→cross, val-same, inside-finite}
-use Rattle.ieee.proofs.Round.{round-zero}
-use Rattle.ieee.proofs.Rounds.{Rounds, add-at}
-use Rattle.ieee.proofs.Held.{rounds-above, rounds-below, no-fraction}
+use Rattle.ieee.proofs.Laws.Compare.{eq-swap}
+use Rattle.ieee.proofs.Laws.Order.{Val, own-val, vals→le, le→vals, lt→vals, le→cross, lt→cross, not-lt→le, finite-number, between, neg-val, les→eq, eq→cross, val-same, inside-finite}
+use Rattle.ieee.proofs.Laws.Round.{round-zero}
+use Rattle.ieee.proofs.Laws.Rounds.{Rounds, add-at}
+use Rattle.ieee.proofs.Laws.Held.{rounds-above, rounds-below, no-fraction}
 use Rattle.numbers.specs.Whole.{floored, floorPlus, floorLess, far, Beside, same, under, over}
-use Rattle.ieee.proofs.Test.{order}
-use Rattle.ieee.proofs.Exact.{minus-zero, whole-held, rounds-whole}
-use Rattle.ieee.proofs.Unique.{same-data}
-use Rattle.ieee.proofs.Cancel.{cancels}
+use Rattle.ieee.proofs.Laws.Test.{order}
+use Rattle.ieee.proofs.Laws.Exact.{minus-zero, whole-held, rounds-whole}
+use Rattle.ieee.proofs.Laws.Unique.{same-data}
+use Rattle.ieee.proofs.Laws.Cancel.{cancels}
 use Rattle.numbers.proofs.Laws.Whole.{floor-is, floor-finite, floor-fits, floor-under, floor-next, floor-near, next-is, floor-lt-next, whole-floor}
 
 -- x with g added and taken off again

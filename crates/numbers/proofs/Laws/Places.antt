@@ -16,8 +16,8 @@ use lib.Ieee.Exact.{HasValue, units-val}
 use lib.Ieee.Nearest.{closest, closest-mono, closest-same, nearest-ge}
 use lib.Ieee.Bits.{ofBits-fits, cond-no}
 use Rattle.numbers.specs.Narrowing.{narrowed}
-use Rattle.ieee.proofs.Unique.{value-unique}
-use Rattle.ieee.proofs.Bits.{low-value, normal-value, infinite-bits}
+use Rattle.ieee.proofs.Laws.Unique.{value-unique}
+use Rattle.ieee.proofs.Laws.Bits.{low-value, normal-value, infinite-bits}
 use Rattle.numbers.proofs.Laws.Narrowing.{narrow-value}
 
 -- ---- D * 2 ^ x / 2 ^ 1074 rounded: p places are shifted out of D, and the last one kept stands for 2 ^ k of the smallest f32

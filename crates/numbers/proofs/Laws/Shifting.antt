@@ -10,7 +10,7 @@ use lib.Arith.{mod-mul}
 use lib.Pow.{pow-pos, pow-add}
 use lib.Ieee.{nearest}
 use lib.Ieee.Nearest.{closest, closest-same}
-use Rattle.ieee.proofs.Test.{Compared, compared}
+use Rattle.ieee.proofs.Laws.Test.{Compared, compared}
 
 -- ---- one order only
 only : (o p : Ordering) (a b : ℕ) → Compared o a b → Compared p a b → o ≡ p

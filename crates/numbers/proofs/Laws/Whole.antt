@@ -17,14 +17,14 @@ use lib.Ieee.Back.{round-whole, whole-unique}
 use lib.Ieee.Scale.{finite}
 use lib.Ieee.Positive.{den, den-pos}
 use Rattle.ieee.specs.Alike.{plain, signed, Alike}
-use Rattle.ieee.specs.Constants.{one₀}
+use Rattle.ieee.specs.Notation.{one₀}
 use Rattle.ieee.specs.Fraction.{plus, less}
-use Rattle.ieee.proofs.Round.{round-zero}
-use Rattle.ieee.proofs.Order.{multiple-less, Val, own-val, has-val, vals→le, vals→lt, le→cross, not-lt→le, inside-finite, inside-size, val-same}
-use Rattle.ieee.proofs.Rounds.{add-at}
-use Rattle.ieee.proofs.Held.{fits-parts, on-grid, no-fraction}
+use Rattle.ieee.proofs.Laws.Round.{round-zero}
+use Rattle.ieee.proofs.Laws.Order.{multiple-less, Val, own-val, has-val, vals→le, vals→lt, le→cross, not-lt→le, inside-finite, inside-size, val-same}
+use Rattle.ieee.proofs.Laws.Rounds.{add-at}
+use Rattle.ieee.proofs.Laws.Held.{fits-parts, on-grid, no-fraction}
 use Rattle.numbers.specs.Whole.{wholeDown, floored, floorPlus, floorLess, far}
-use Rattle.ieee.proofs.Exact.{rounds-whole}
+use Rattle.ieee.proofs.Laws.Exact.{rounds-whole}
 
 -- ---- the quotient, either way
 up-le : (a c : ℕ) → 0 < c → (a + (c - 1)) / c * c < a + c

@@ -12,9 +12,9 @@ use lib.Ieee.Back.{round-whole}
 use lib.Ieee.Bits.{ofBits-fits, ofBits-toBits}
 use lib.Ieee.Exact.{HasValue, round-exact}
 use lib.Ieee.Fits.{mul-fits, fits-widens}
-use Rattle.ieee.proofs.Exact.{whole-scaled}
-use Rattle.ieee.proofs.Unique.{value-unique}
-use Rattle.ieee.proofs.Bits.{low-value, normal-value, infinite-bits, unsigned, value-number}
+use Rattle.ieee.proofs.Laws.Exact.{whole-scaled}
+use Rattle.ieee.proofs.Laws.Unique.{value-unique}
+use Rattle.ieee.proofs.Laws.Bits.{low-value, normal-value, infinite-bits, unsigned, value-number}
 
 -- ---- below 2 ^ -126
 -- 2 ^ -149

@@ -9,7 +9,7 @@ use borrow.Author.Tests.{eqb-true, leb-true, leb-false}
 use lib.Dec.{T, eqb, leb}
 use lib.ListN.{length, drop, length-drop, drop-of-length-le}
 use lib.Ieee.{Float}
-use Rattle.ieee.proofs.Test.{yes}
+use Rattle.ieee.proofs.Laws.Test.{yes}
 use Rattle.receiver.specs.declared.record.Receiver.{Receiver}
 use Rattle.receiver.specs.Record.{Given}
 use Rattle.receiver.specs.Call.{Outcome, called}
@@ -17,8 +17,8 @@ use Rattle.receiver.specs.Calls.{Call}
 use Rattle.receiver.proofs.Laws.Given.{called-given}
 use Rattle.receiver.proofs.Laws.Sparing.{called-sparing}
 use Rattle.blocks.specs.Receiver.{Waiting, start, waitsAfter, Heard, recorded, heard, waits, again, APlace}
-use Rattle.blocks.proofs.Recording.{cut-never-shows, heard-receiver}
-use Rattle.blocks.proofs.Taken.{once, ahead, nearer, left-even, idle, again-takes, waits-given, waits-append, recorded-append, again-records}
+use Rattle.blocks.proofs.Laws.Recording.{cut-never-shows, heard-receiver}
+use Rattle.blocks.proofs.Laws.Taken.{once, ahead, nearer, left-even, idle, again-takes, waits-given, waits-append, recorded-append, again-records}
 use Rattle.receive_recording.specs.Block.{places, callOn, final, received, receivedAll, whole, Even}
 use Rattle.receive_recording.proofs.Laws.Accepted.{call-accepted}
 

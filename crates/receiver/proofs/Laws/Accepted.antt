@@ -1,23 +1,21 @@
--- An accepted sample call as the code makes it: what timing's run and then the carrier's run over its strobes come to is what the definition says. Assumes nothing.
-use mathlib.Core.Path.{_≡_, sym, ap, _∙_}
-use mathlib.Core.List.{List, _++_}
-use Prim.Native.Nat.{ℕ, _*_, _%_, _≤_}
+-- An accepted sample call as the code makes it: what timing's run and then the carrier's over its strobes come to is what the definition says. Assumes nothing.
+use mathlib.Core.Path.{_≡_, ap, _∙_}
+use mathlib.Core.List.{List}
+use Prim.Native.Nat.{ℕ, _*_, _≤_}
 use native.Mathlib.Omega.{arith}
-use lib.ListN.{length, take, drop, length-take}
+use lib.ListN.{length, take, length-take}
 use lib.Ieee.{Float}
 use Rattle.values.specs.declared.sample.C32.{C32}
-use Rattle.values.specs.Answer as answer
-use Rattle.timing.specs.Run.{written, calledComplex}
+use Rattle.values.specs.declared.progress.Answer.the-variants.{Done}
+use Rattle.values.specs.Buffers.{written}
+use Rattle.timing.specs.Run.{doneComplex}
 use Rattle.timing.specs.Run as run
-use Rattle.timing.proofs.Laws.Run.{both-even, calledComplex-done, calledComplex-sparing}
-use Rattle.symbol_sync.specs.declared.complex.Ran as timed
-use Rattle.symbol_sync.specs.Complex.{sync, stateOf}
-use Rattle.symbol_sync.specs.Complex as timing
+use Rattle.timing.proofs.Laws.Run.{doneComplex-sparing}
+use Rattle.symbol_sync.specs.declared.complex.Recovered.{Recovered}
+use Rattle.symbol_sync.specs.Complex.{sync, stateOf, recovered}
+use Rattle.carrier.specs.declared.state.CostasState.{CostasState}
 use Rattle.carrier.specs.Run as carrier
-use Rattle.carrier.proofs.Laws.Count.{done-length}
-use Rattle.carrier.proofs.Laws.Refused.{called-done}
-use Rattle.costas.specs.declared.symbols.Ran as carried
-use Rattle.costas.specs.Answered as costas
+use Rattle.carrier.proofs.Laws.Carried.{carried-all}
 use Rattle.receiver.specs.declared.record.Receiver.{Receiver}
 use Rattle.receiver.specs.Call.{Outcome, outcomeOf, held, done}
 
@@ -34,39 +32,23 @@ after r ys t =
       output = written (c .output) ys;
     }
 
-module _ (r : Receiver) (xs zs ys : List Float) (even : (length xs % 2 ≡ 0) × (length zs % 2 ≡ 0)) (equal : length zs ≡ length ys) (a : timed.Ran) (ws : List Float) (e : timing.answered a ws ≡ calledComplex (sync (r .timing)) xs zs) where
+module _ (r : Receiver) (xs zs ys : List Float) (equal : length zs ≡ length ys) (a : Recovered) (ws : List Float) (e : recovered a ws ≡ doneComplex (sync (r .timing)) xs zs) where
   -- the strobe buffer keeps its length, and so has the output's
   pub same-length : length ws ≡ length ys
-  same-length = ap (λ (o : run.Outcome C32). length (o .output)) e ∙ calledComplex-sparing (sync (r .timing)) xs zs .same-length ∙ equal
+  same-length = ap (λ (o : run.Outcome C32). length (o .output)) e ∙ doneComplex-sparing (sync (r .timing)) xs zs .same-length ∙ equal
 
   -- the strobes produced lie in both
-  pub fits-output : 2 * answer.produced (a .answer) ≤ length ys
+  pub fits-output : 2 * a .progress .produced ≤ length ys
   fits-output =
-      let p = calledComplex-sparing (sync (r .timing)) xs zs in
+      let p = doneComplex-sparing (sync (r .timing)) xs zs in
       let n = ap (λ (o : run.Outcome C32). o .produced) e in
       omega (arith, p .produced)
 
-  module _ {n : ℕ} (h : n ≡ answer.produced (a .answer)) where
-    -- after the carrier's run over the first n strobes
-    abbrev carriedOn : ℕ → Outcome
-    carriedOn m =
-        let c = carrier.done (r .carrier) (take (2 * m) ws) in
-        outcomeOf (a .answer) (record { timing = a .state; carrier = c .state; count = held (r .count) m }) ws (written (c .output) ys)
-
-    in-strobes : length (take (2 * n) ws) ≡ 2 * n
-    in-strobes = let l = fits-output in let m = same-length in rw length-take (omega arith)
-
-    in-output : length (take (2 * n) ys) ≡ 2 * n
-    in-output = let l = fits-output in rw length-take (omega arith)
-
-    pub call-done : (b : carried.Ran) (vs : List Float) {count : ℕ} → costas.answered b vs ≡ carrier.called (r .carrier) (take (2 * n) ws) (take (2 * n) ys) → count ≡ held (r .count) n
-        → outcomeOf (a .answer) (record { timing = a .state; carrier = b .state; count = count }) ws (vs ++ drop (2 * n) ys) ≡ done r xs zs ys
-    unfolding done
-    call-done b vs {count} f g =
-        let w = take (2 * n) ws in
-        let y = take (2 * n) ys in
-        let d = f ∙ called-done (r .carrier) w y (both-even w y (λ o. let l = in-strobes in omega arith) (λ o. let l = in-output in omega arith)) (in-strobes ∙ sym in-output) in
-        let long = sym (done-length (r .carrier) w (let l = in-strobes in omega arith) ∙ in-strobes) in
-        (λ j. outcomeOf (a .answer) (record { timing = a .state; carrier = d j .state; count = g j }) ws (d j .output ++ drop (long j) ys))
-        ∙ ap carriedOn h
-        ∙ ap (after r ys) (e ∙ calledComplex-done (sync (r .timing)) xs zs (both-even xs zs (λ o. omega arith) (λ o. omega arith)))
+  pub call-done : (c : CostasState) (vs : List Float) {count : ℕ} → record { number = 0; state = c; output = vs } ≡ carrier.carried (r .carrier) (take (2 * a .progress .produced) ws) ys → count ≡ held (r .count) (a .progress .produced)
+      → outcomeOf (Done (a .progress)) (record { timing = a .state; carrier = c; count = count }) ws vs ≡ done r xs zs ys
+  unfolding done
+  call-done c vs {count} f g =
+      let w = take (2 * a .progress .produced) ws in
+      let long : length w ≤ length ys = (let l = fits-output in let m = same-length in rw length-take (omega arith)) in
+      let d = f ∙ carried-all (r .carrier) w ys (omega arith) in
+      (λ j. outcomeOf (Done (a .progress)) (record { timing = a .state; carrier = d j .state; count = g j }) ws (d j .output)) ∙ ap (after r ys) e

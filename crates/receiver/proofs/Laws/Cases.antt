@@ -1,16 +1,8 @@
--- Document 01's starred cases, twelve in all, in one theorem: "Starred ones are proved of the definitions, gathered in one theorem". Assumes nothing.
+-- The starred cases hold, all in one theorem. Assumes nothing.
 use Rattle.timing.proofs.Laws.Cases as timing
 use Rattle.modulate.proofs.Laws.Cases as modulate
 use Rattle.carrier.proofs.Laws.Cases as carrier
-
-pub record StarredCases : Type 0 where
-  -- "*Window 0, 0, 1, 0 at 0.5: 0.5625. *0, 1, 1, 0 at 0.5: 1.125."
-  -- "*Gardner previous 1, strobe -1, middle 0.25: 0.5. *Mueller-Müller previous decision 1, strobe -0.5, decision -1, previous strobe 0.75: 0.25."
-  pub windows-and-errors : timing.Cases
-  -- "*Phase for v = 2^-33: 1; *-2^-33: 0; *-3 × 2^-33: 4,294,967,295; *2^31: 4,294,967,295."
-  pub phase-steps : modulate.Cases
-  -- "*8-PSK (1, 1): octant 1; *(0, 1): 2. *QPSK measure (1, 1): 1; *silence: none."
-  pub octants-and-measures : carrier.Cases
+use Rattle.receiver.specs.Cases.{StarredCases}
 
 pub starred-cases : StarredCases
 starred-cases = record { windows-and-errors = timing.cases; phase-steps = modulate.cases; octants-and-measures = carrier.cases }

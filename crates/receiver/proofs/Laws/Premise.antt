@@ -7,25 +7,27 @@ use mathlib.Core.List.{List, [], _∷_, map}
 use lib.Dec.{T}
 use lib.IntN.{pos, negsuc}
 use lib.Ieee.{Float, fin, add, sub, mul, div, neg, lt, le, round, ofBits}
-use Rattle.ieee.specs.Constants.{zero₀, half₀, one₀, two₀}
+use Rattle.ieee.specs.Notation.{zero₀, half₀, one₀, two₀, quarter₀}
 use Rattle.ieee.specs.Magnitude.{magnitude}
 use Rattle.ieee.specs.Alike.{Alike}
-use Rattle.ieee.proofs.Like.{like-refl}
-use Rattle.ieee.proofs.Compare.{zero-lt, like-lt, lt-zero, not-both}
+use Rattle.ieee.proofs.Laws.Like.{like-refl}
+use Rattle.ieee.proofs.Laws.Compare.{zero-lt, like-lt, lt-zero, not-both}
 use Rattle.values.specs.Samples.{samples, parts}
-use Rattle.values.specs.Each.{Each}
+use Rattle.lists.specs.Each.{Each}
 use Rattle.values.specs.Turn.{turns}
 use Rattle.values.specs.Calls.{afterBy}
 use Rattle.numbers.specs.Narrowing.{narrowed}
 use Rattle.numbers.specs.Denormal.{flushed}
 use Rattle.numbers.specs.Range.{limited}
+use Rattle.checks.specs.Range.{inRange, positive}
+use Rattle.checks.specs.Table.{firstOf}
+use Rattle.gains.specs.Quotients.{theta, divisor, proportional, integral}
 use Rattle.cosine.specs.Bits.{cosBits}
 use Rattle.cosine.specs.Table.{cosList}
 use Rattle.timing.specs.declared.params.Ted.the-variants.{Gardner}
-use Rattle.timing.specs.Gains.{theta, divisor, proportional, integral, kpOf, kiOf}
-use Rattle.timing.specs.Setup.{inRange, positive, firstOf}
+use Rattle.timing.specs.Gains.{kpOf, kiOf}
 use Rattle.timing.specs.Part.{interpolated}
-use Rattle.timing.specs.Clock.{quarter₀, lacking}
+use Rattle.timing.specs.Clock.{lacking}
 use Rattle.timing.specs.Loop.{midTaken, valueAt, runs}
 use Rattle.timing.specs.Run.{ran}
 use Rattle.carrier.specs.declared.constellation.CostasConstellation.the-variants.{Bpsk}

@@ -7,11 +7,11 @@ use borrow.Author.Tests.{eqb-true, eqb-false, eq-eqb, ne-eqb}
 use lib.Dec.{T, eqb}
 use lib.ListN.{length}
 use lib.Ieee.{Float}
-use Rattle.ieee.proofs.Test.{both-tests, neither-test}
+use Rattle.ieee.proofs.Laws.Test.{both-tests, neither-test}
 use Rattle.values.specs.declared.error.Refusal.{Refusal}
 use Rattle.values.specs.declared.error.Refusal.the-variants.{Uneven, Odd}
-use Rattle.timing.specs.Run.{oddEither}
-use Rattle.timing.proofs.Laws.Run.{odd-input, odd-output, both-even, even-both}
+use Rattle.values.specs.Buffers.{oddEither}
+use Rattle.values.proofs.Laws.Buffers.{odd-input, odd-output, both-even, even-both}
 use Rattle.receiver.specs.declared.record.Receiver.{Receiver}
 use Rattle.receiver.specs.Call.{Outcome, turnedAway, done, oddAny, called, accepts}
 

@@ -1,20 +1,22 @@
 -- A set-up of the receiver: it is refused exactly if a row is not passed, with the first such row's reason; an accepted one gives the fresh receiver of its values; and it answers what the two loops' set-ups answer, timing's first. Assumes nothing.
-use mathlib.Core.Path.{_≡_, sym, ap, _∙_}
+use mathlib.Core.Path.{_≡_, refl, sym, ap, _∙_}
 use Prim.Native.Nat.{ℕ}
 use native.Mathlib.Omega.{arith}
 use lib.Dec.{T}
-use lib.Ieee.{neg, le, round}
-use Rattle.ieee.specs.Constants.{zero₀}
+use lib.Ieee.{binary64, neg, le, round}
+use Rattle.ieee.specs.Notation.{zero₀, decimal}
 use Rattle.values.specs.declared.sample.C32.{C32}
 use Rattle.values.specs.declared.error.Refusal.{Refusal}
-use Rattle.timing.specs.Setup.{decimal, inRange, firstOf, tuned}
+use Rattle.checks.specs.Range.{inRange}
+use Rattle.checks.specs.Table.{firstOf, Exactly}
+use Rattle.checks.proofs.Laws.Rows.{first-append, first-map}
+use Rattle.checks.proofs.Laws.Exactly.{exactly, accepted-is}
+use Rattle.timing.specs.Setup.{tuned}
 use Rattle.timing.specs.declared.setup.Tuning.{Tuning}
 use Rattle.timing.specs.declared.setup.Tuning.the-variants as tuning
 use Rattle.timing.specs.Sample.{complex}
 use Rattle.timing.specs.Run.{Sync, openedBy}
 use Rattle.timing.specs.Run as run
-use Rattle.timing.proofs.Laws.Rows.{first-append, first-map, rows-passed}
-use Rattle.timing.proofs.Laws.Exactly.{First, first-exactly}
 use Rattle.symbol_sync.specs.declared.complex.SymbolSyncState.{SymbolSyncState}
 use Rattle.symbol_sync.specs.Complex.{sync, stateOf}
 use Rattle.carrier.specs.declared.constellation.CostasConstellation.{CostasConstellation}
@@ -26,22 +28,15 @@ use Rattle.receiver.specs.declared.record.TimingValues.{TimingValues}
 use Rattle.receiver.specs.declared.record.CarrierValues.{CarrierValues}
 use Rattle.receiver.specs.declared.record.SetUp.{SetUp}
 use Rattle.receiver.specs.declared.record.SetUp.the-variants.{Ready, Refused}
-use Rattle.receiver.specs.Record.{timingParams, carrierParamsOf, fresh, timingRows, carrierRows, rows, opened}
+use Rattle.receiver.specs.Record.{timingParams, carrierParamsOf, fresh, timingRows, carrierRows, rows, opened, setUpNumber}
 
--- ---- which set-up is refused
-refused-apart : (r : Receiver) (n : Refusal) → Refused n ≡ Ready r → ⊥
-refused-apart r n e = let z : _≡_ {A = ℕ} 0 1 = cc in absurd (omega arith)
-
-same-reason : (m n : Refusal) → Refused m ≡ Refused n → m ≡ n
-same-reason m n e = cc
-
--- in both directions, for every number
-pub refused-exactly : (k : CostasConstellation) (t : TimingValues) (c : CarrierValues) (n : Refusal) → (opened k t c ≡ Refused n → First n (rows t c)) × (First n (rows t c) → opened k t c ≡ Refused n)
+-- ---- which set-up is refused, by its number: 2, 3 and 4 stand twice in the table
+pub refused-exactly : (k : CostasConstellation) (t : TimingValues) (c : CarrierValues) → Exactly (setUpNumber (opened k t c)) (rows t c)
 unfolding opened
-refused-exactly k t c n = first-exactly Refused (Ready (fresh k (timingParams t) (carrierParamsOf c))) (refused-apart _) same-reason (rows t c) n
+refused-exactly k t c = exactly setUpNumber Refused (λ n. refl) _ refl (rows t c)
 
 -- a deviation and an offset of minus zero pass their rows
-pub minus-zero-passes : T (inRange zero₀ (neg zero₀) (decimal 5 100)) × T (inRange zero₀ (neg zero₀) (decimal 25 100))
+pub minus-zero-passes : T (inRange zero₀ (neg zero₀) (decimal binary64 5 100)) × T (inRange zero₀ (neg zero₀) (decimal binary64 25 100))
 unfolding inRange neg le round
 minus-zero-passes = (tt, tt)
 
@@ -51,7 +46,7 @@ same-receiver r s e = cc
 
 pub opened-is : (k : CostasConstellation) (t : TimingValues) (c : CarrierValues) (r : Receiver) → opened k t c ≡ Ready r → r ≡ fresh k (timingParams t) (carrierParamsOf c)
 unfolding opened
-opened-is k t c r e = let f = fresh k (timingParams t) (carrierParamsOf c) in sym (same-receiver f r (rows-passed Refused (Ready r) (refused-apart r) (rows t c) (Ready f) e .1))
+opened-is k t c r e = let f = fresh k (timingParams t) (carrierParamsOf c) in sym (same-receiver f r (accepted-is setUpNumber Refused (λ n. refl) (Ready f) refl (rows t c) (Ready r) refl e .1))
 
 -- ---- what the two set-ups answer, put together
 -- with the timing state s

@@ -6,9 +6,9 @@ use native.Mathlib.Omega.{arith}
 use lib.Dec.{lit<}
 use lib.IntN.{pos}
 use lib.Ieee.{lt, eq}
-use Rattle.ieee.specs.Constants.{zero₀}
-use Rattle.ieee.proofs.Like.{like-refl}
-use Rattle.ieee.proofs.Compare.{like-lt, like-eq}
+use Rattle.ieee.specs.Notation.{zero₀}
+use Rattle.ieee.proofs.Laws.Like.{like-refl}
+use Rattle.ieee.proofs.Laws.Compare.{like-lt, like-eq}
 use Rattle.values.specs.declared.sample.C32.{C32}
 use Rattle.values.specs.Samples.{silence}
 use Rattle.values.specs.Turn.{AlikeSample}

@@ -11,15 +11,16 @@ use Rattle.values.specs.declared.sample.C32.{C32}
 use Rattle.values.specs.declared.error.Refusal.{Refusal}
 use Rattle.values.specs.declared.error.Refusal.the-variants.{Uneven, Odd}
 use Rattle.values.specs.Samples.{samples, parts}
-use Rattle.values.specs.Each.{Each, none, more}
+use Rattle.lists.specs.Each.{Each, none, more}
 use Rattle.values.specs.Turn.{turnsAll, AllTurned}
 use Rattle.values.proofs.Laws.Calls.{lists-keep}
 use Rattle.values.proofs.Laws.Samples.{length-samples, length-parts, samples-parts, samples-take, samples-drop, samples-append}
-use Rattle.values.proofs.Laws.Each.{each-length}
+use Rattle.lists.proofs.Laws.Each.{each-length}
 use Rattle.values.proofs.Laws.Turn.{turnsAll-turned}
+use Rattle.values.specs.Buffers.{written}
 use Rattle.timing.specs.declared.params.Params.{Params}
 use Rattle.timing.specs.Sample.{complex}
-use Rattle.timing.specs.Run.{written, ran, doneComplex}
+use Rattle.timing.specs.Run.{ran, doneComplex}
 use Rattle.timing.specs.Run as run
 use Rattle.timing.proofs.Laws.TurnedRun.{TiedSync, tied-ran}
 use Rattle.timing.proofs.Laws.TurnedRun as timingRun

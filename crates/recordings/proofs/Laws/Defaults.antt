@@ -1,8 +1,10 @@
 -- The set-up for the sample recording is accepted, with either detector and each constellation. Assumes nothing.
 use mathlib.Core.Path.{_≡_, refl}
 use lib.Ieee.{add, mul, div, lt, le, round}
-use Rattle.timing.specs.Gains.{theta, divisor, proportional, integral, kpOf, kiOf}
-use Rattle.timing.specs.Setup.{inRange, positive, firstOf}
+use Rattle.checks.specs.Range.{inRange, positive}
+use Rattle.checks.specs.Table.{firstOf}
+use Rattle.gains.specs.Quotients.{theta, divisor, proportional, integral}
+use Rattle.timing.specs.Gains.{kpOf, kiOf}
 use Rattle.timing.specs.declared.params.Ted.{Ted}
 use Rattle.carrier.specs.declared.constellation.CostasConstellation.{CostasConstellation}
 use Rattle.receiver.specs.declared.record.SetUp.the-variants.{Ready}

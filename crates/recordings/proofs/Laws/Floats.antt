@@ -8,11 +8,12 @@ use lib.ListN.{length, length-append, length-take, length-drop, getD, take, drop
 use lib.Seq.{sets, take-all, length-take-le}
 use lib.Ieee.{Float, binary32, fits, ofBits, toBits}
 use lib.Ieee.Bits.{ofBits-toBits, toBits-lt}
-use Rattle.ieee.specs.Constants.{zero₀}
+use Rattle.ieee.specs.Notation.{zero₀}
 use Rattle.recordings.specs.Bytes.{littleEndian, bytesOf}
 use Rattle.recordings.specs.Samples.{floats, bytes}
 use Rattle.recordings.proofs.Laws.LittleEndian.{bytes-spell}
-use Rattle.recordings.proofs.Laws.Stores.{Stored, goes-on, take-more}
+use Rattle.lists.proofs.Laws.Reading.{take-more}
+use Rattle.lists.proofs.Laws.Stores.{Stored, goes-on}
 
 -- ---- the f32 of bytes
 pub length-floats : (l : List ℕ) → length (floats l) ≡ length l / 4

@@ -11,7 +11,8 @@ use lib.ListN.{length, length-append, getD, take, set}
 use lib.Seq.{sets, take-all, length-take-le}
 use borrow.Author.Tests.{eq-eqb, ne-eqb}
 use Rattle.recordings.specs.Text.{lined}
-use Rattle.recordings.proofs.Laws.Stores.{Stored, begins, goes-on, take-more}
+use Rattle.lists.proofs.Laws.Reading.{take-more}
+use Rattle.lists.proofs.Laws.Stores.{Stored, begins, goes-on}
 
 -- so the text does not show how the digits were cut
 pub lined-append : (n : ℕ) (ds es : List ℕ) → lined n (ds ++ es) ≡ lined n ds ++ lined (n + length ds) es

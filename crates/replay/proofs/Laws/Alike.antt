@@ -3,7 +3,7 @@ use mathlib.Core.Path.{_≡_}
 use mathlib.Core.Bool.{true, false}
 use lib.Ieee.{Float, ne, eq}
 use Rattle.ieee.specs.Alike.{sameNumber}
-use Rattle.ieee.proofs.Nan.{differs-is}
+use Rattle.ieee.proofs.Laws.Nan.{differs-is}
 
 module _ (x y : Float) where
   pub alike-equal : eq x y ≡ true → true ≡ sameNumber x y

@@ -4,16 +4,16 @@ use Prim.Native.Nat.{ℕ}
 use mathlib.Core.Bool.{Bool}
 use lib.IntN.{pos}
 use lib.Ieee.{Float, binary64, sub, ofInt}
-use Rattle.ieee.specs.Constants.{zero₀, half₀}
+use Rattle.ieee.specs.Notation.{zero₀, half₀, quarter₀, three₀}
 use Rattle.ieee.specs.Alike.{Alike}
-use Rattle.ieee.proofs.Like.{like-refl, like-add, like-sub, like-mul-l, like-mul-r}
-use Rattle.ieee.proofs.Compare.{like-cond, like-finite}
+use Rattle.ieee.proofs.Laws.Like.{like-refl, like-add, like-sub, like-mul-l, like-mul-r}
+use Rattle.ieee.proofs.Laws.Compare.{like-cond, like-finite}
 use Rattle.numbers.proofs.Laws.Denormal.{like-flush}
 use Rattle.numbers.proofs.Laws.Range.{alike-limit}
 use Rattle.numbers.proofs.Laws.Whole.{alike-floor, alike-floor-plus, alike-floor-less}
 use Rattle.timing.specs.declared.params.Params.{Params}
 use Rattle.timing.specs.declared.clock.Clock.{Clock}
-use Rattle.timing.specs.Clock.{quarter₀, three₀, nextStrobe, wholeAt, partOf, midway, midIndex, midPart, newInteg, newOmega, moved, advanced, settled}
+use Rattle.timing.specs.Clock.{nextStrobe, wholeAt, partOf, midway, midIndex, midPart, newInteg, newOmega, moved, advanced, settled}
 
 pub record AlikeClock (c d : Clock) : Type 0 where
   pub place : c .i ≡ d .i

@@ -7,8 +7,8 @@ use lib.Dec.{T}
 use lib.Ieee.{Float, binary64, mul, neg, le, lt, fits}
 use lib.Ieee.Fits.{sub-fits}
 use lib.Ieee.Scale.{finite}
-use Rattle.ieee.specs.Constants.{zero₀, half₀}
-use Rattle.ieee.proofs.Order.{le-trans-float, neg-le}
+use Rattle.ieee.specs.Notation.{zero₀, half₀}
+use Rattle.ieee.proofs.Laws.Order.{le-trans-float, neg-le}
 use Rattle.numbers.specs.Whole.{floorPlus, floorLess}
 use Rattle.timing.specs.declared.params.Params.{Params}
 use Rattle.timing.specs.declared.clock.Clock.{Clock}

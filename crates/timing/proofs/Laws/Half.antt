@@ -11,12 +11,12 @@ use lib.Ieee.{Float, fin, binary64, sub, mul, le, fits}
 use lib.Ieee.Fits.{mul-fits}
 use lib.Ieee.Scale.{finite}
 use lib.Ieee.Positive.{den, den-pos}
-use Rattle.ieee.specs.Constants.{zero₀, half₀, one₀}
+use Rattle.ieee.specs.Notation.{zero₀, half₀, one₀}
 use Rattle.ieee.specs.Fraction.{plus, less}
-use Rattle.ieee.proofs.Order.{products, Val, own-val, le→cross, le→vals, le-trans-float, less-none}
-use Rattle.ieee.proofs.Rounds.{sub-at}
-use Rattle.ieee.proofs.Held.{fits-parts, pow-back, rounds-above}
-use Rattle.ieee.proofs.Exact.{half-exact}
+use Rattle.ieee.proofs.Laws.Order.{products, Val, own-val, le→cross, le→vals, le-trans-float, less-none}
+use Rattle.ieee.proofs.Laws.Rounds.{sub-at}
+use Rattle.ieee.proofs.Laws.Held.{fits-parts, pow-back, rounds-above}
+use Rattle.ieee.proofs.Laws.Exact.{half-exact}
 
 -- ---- a value of 1 or more
 pub one-nonneg : (w : Float) → T (le one₀ w) → T (le zero₀ w)

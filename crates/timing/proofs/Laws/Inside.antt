@@ -10,20 +10,8 @@ use Rattle.timing.specs.declared.params.Params.{Params}
 use Rattle.timing.specs.declared.clock.Clock.{Clock}
 use Rattle.timing.specs.Clock.{midIndex, moved}
 use Rattle.timing.specs.Given.{Running}
+use Rattle.timing.specs.Inside.{Inside}
 use Rattle.timing.proofs.Laws.Clock.{running-able, running-pending}
-
--- the checks of a run over n input samples, `mid` if the middle is lacking
-pub record Inside (p : Params) (c : Clock) (mid : Bool) (n : ℕ) : Type 0 where
-  -- `mid_position`: the sum of i and the floor, which is no truncated one, has a sample before it
-  pub middle : T mid → (1 ≤ midIndex c) × (midIndex c ≤ c .i)
-  -- `window`: so has the strobe's place
-  pub strobe : 1 ≤ c .i
-  -- the sum of i and the floor after a strobe that can be worked out
-  pub next : c .i ≤ n → n < 2 ^ 63 → (e : Float) → T (finite e) → c .i + floorPlus (moved p c e) < 2 ^ 64
-  -- the count to consume is the place needed next, less 1
-  pub pending : 1 ≤ cond mid (midIndex c) (c .i)
-  -- `at`: the new history ends at an index of the n + 3 samples
-  pub history : min (cond mid (midIndex c) (c .i) - 1) n + 2 < n + 3
 
 pub inside : (p : Params) (c : Clock) (mid : Bool) (n : ℕ) → Running p c mid n → Inside p c mid n
 inside p c mid n g =

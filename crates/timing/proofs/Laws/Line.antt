@@ -1,22 +1,17 @@
 -- The history followed by the input, over any sample type: the samples past the history, and the places at which a value can be worked out. Assumes nothing.
-use mathlib.Core.Path.{_≡_, refl, _∙_}
-use mathlib.Core.List.{List, [], _∷_}
-use Prim.Native.Nat.{ℕ, zero, suc, _+_, _<_}
+use mathlib.Core.Path.{_≡_, _∙_}
+use mathlib.Core.List.{List}
+use Prim.Native.Nat.{ℕ, suc, _+_, _<_}
 use native.Mathlib.Omega.{arith}
 use lib.Dec.{leb}
 use lib.ListN.{length, getD}
 use lib.Ieee.{Float}
+use Rattle.lists.proofs.Laws.Reading.{getD-default}
 use Rattle.numbers.specs.Narrowing.{narrowed}
 use Rattle.timing.specs.Sample.{Ops}
 use Rattle.timing.specs.Loop.{there, windowAt, valueAt}
 use Rattle.timing.specs.Run.{Hist, line}
 use Rattle.timing.proofs.Laws.Loop.{there-leb}
-
--- in range the default does not matter
-getD-default : {A : Type 0} (xs : List A) (k : ℕ) (y z : A) → k < length xs → getD xs k y ≡ getD xs k z
-getD-default [] k y z l = absurd (omega arith)
-getD-default (x ∷ xs) zero y z l = refl
-getD-default (x ∷ xs) (suc k) y z l = getD-default xs k y z (omega arith)
 
 module _ {A : Type 0} (h : Hist A) (xs : List A) where
   -- past the history stand the input's samples

@@ -7,7 +7,7 @@ use native.Mathlib.Omega.{arith}
 use lib.Dec.{T, ltb, leb, ltb→lt, lt→ltb, nltb→le, leb→le, le→leb}
 use lib.ListN.{length}
 use lib.Ieee.Fits.{and-r}
-use Rattle.ieee.proofs.Test.{yes, same-test}
+use Rattle.ieee.proofs.Laws.Test.{yes, same-test}
 use Rattle.timing.specs.declared.params.Ted.{Ted}
 use Rattle.timing.specs.declared.params.Ted.the-variants.{Gardner, MuellerMuller}
 use Rattle.timing.specs.declared.params.Params.{Params}

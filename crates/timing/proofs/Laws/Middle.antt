@@ -12,13 +12,13 @@ use lib.Ieee.{Float, fin, binary64, sub, mul, neg, le, fits}
 use lib.Ieee.Fits.{neg-fits}
 use lib.Ieee.Scale.{finite}
 use lib.Ieee.Positive.{den, den-pos}
-use Rattle.ieee.specs.Constants.{zero₀, half₀, one₀}
+use Rattle.ieee.specs.Notation.{zero₀, half₀, one₀}
 use Rattle.ieee.specs.Fraction.{plus, less}
-use Rattle.ieee.proofs.Order.{products, Val, own-val, less-none, le→cross, lt→cross, le→vals, le-refl-float, finite-number, between, neg-val}
-use Rattle.ieee.proofs.Rounds.{sub-at}
-use Rattle.ieee.proofs.Held.{rounds-above}
-use Rattle.ieee.proofs.Exact.{minus-zero}
-use Rattle.ieee.proofs.Mono.{sub-mono, mul-mono-left, mul-nonneg}
+use Rattle.ieee.proofs.Laws.Order.{products, Val, own-val, less-none, le→cross, lt→cross, le→vals, le-refl-float, finite-number, between, neg-val}
+use Rattle.ieee.proofs.Laws.Rounds.{sub-at}
+use Rattle.ieee.proofs.Laws.Held.{rounds-above}
+use Rattle.ieee.proofs.Laws.Exact.{minus-zero}
+use Rattle.ieee.proofs.Laws.Mono.{sub-mono, mul-mono-left, mul-nonneg}
 use Rattle.numbers.specs.Whole.{floored, floorPlus, floorLess}
 use Rattle.numbers.proofs.Laws.Whole.{floor-is, floor-fits, floor-one-side, floor-below, floor-least}
 use Rattle.numbers.proofs.Laws.Part.{floor-plain, part-is}

@@ -6,14 +6,13 @@ use lib.IntN.{pos, negsuc}
 use lib.Dec.{T}
 use lib.Ieee.{Float, fin, binary64, add, sub, mul, neg, le, lt}
 use lib.Ieee.Scale.{finite}
-use Rattle.ieee.specs.Constants.{zero₀, half₀, one₀, two₀}
-use Rattle.ieee.proofs.Test.{yes, no}
-use Rattle.ieee.proofs.Algebra.{mul-swap, sub-is}
-use Rattle.ieee.proofs.Order.{le-trans-float, le-refl-float, finite-number, lt→le, not-lt→le, neg-finite, between}
-use Rattle.ieee.proofs.Exact.{minus-zero}
-use Rattle.ieee.proofs.Mono.{add-mono, sub-mono, mul-mono, mul-mono-left, mul-nonneg}
+use Rattle.ieee.specs.Notation.{zero₀, half₀, one₀, two₀, three₀}
+use Rattle.ieee.proofs.Laws.Test.{yes, no}
+use Rattle.ieee.proofs.Laws.Algebra.{mul-swap, sub-is}
+use Rattle.ieee.proofs.Laws.Order.{le-trans-float, le-refl-float, finite-number, lt→le, not-lt→le, neg-finite, between}
+use Rattle.ieee.proofs.Laws.Exact.{minus-zero}
+use Rattle.ieee.proofs.Laws.Mono.{add-mono, sub-mono, mul-mono, mul-mono-left, mul-nonneg}
 use Rattle.timing.specs.declared.params.Params.{Params}
-use Rattle.timing.specs.Clock.{three₀}
 use Rattle.timing.specs.Given.{Tuned}
 use Rattle.timing.proofs.Laws.Setup.{million₀, twentieth₀, Limits, limits}
 use Rattle.timing.proofs.Laws.Half.{one-nonneg, half-left}

@@ -9,9 +9,9 @@ use lib.Dec.{T, le→leb}
 use lib.Ieee.{Float, fin, binary64, sub, lt, ofInt, toUnsigned, inUnsigned, inFloat}
 use lib.Ieee.Back.{unsigned-back}
 use lib.Ieee.Scale.{finite}
-use Rattle.ieee.specs.Constants.{zero₀}
-use Rattle.ieee.proofs.Order.{Val, plus-some}
-use Rattle.ieee.proofs.Exact.{zero-minus}
+use Rattle.ieee.specs.Notation.{zero₀}
+use Rattle.ieee.proofs.Laws.Order.{Val, plus-some}
+use Rattle.ieee.proofs.Laws.Exact.{zero-minus}
 use Rattle.numbers.specs.Whole.{floored, floorPlus, floorLess}
 use Rattle.numbers.proofs.Laws.Whole.{floor-is}
 use Rattle.timing.specs.Clock.{wholeAt, Back, On}

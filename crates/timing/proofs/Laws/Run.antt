@@ -10,14 +10,17 @@ use lib.Dec.{eqb}
 use lib.ListN.{length, drop, length-append, length-drop}
 use lib.Seq.{drop-append-seam}
 use lib.Ieee.{Float}
-use Rattle.ieee.proofs.Test.{neither-test}
+use Rattle.ieee.proofs.Laws.Test.{neither-test}
 use Rattle.values.specs.declared.sample.C32.{C32}
 use Rattle.values.specs.declared.error.Refusal.the-variants.{Odd}
 use Rattle.values.specs.Samples.{samples}
+use Rattle.values.specs.Buffers.{oddEither}
+use Rattle.values.proofs.Laws.Buffers.{written-length}
 use Rattle.values.proofs.Laws.Samples.{length-samples}
 use Rattle.timing.specs.Sample.{Ops, real, complex}
 use Rattle.timing.specs.Loop.{lacks, runs, consumed, pending, trackBack}
-use Rattle.timing.specs.Run.{Sync, Given, line, ran, Outcome, done, calledReal, turnedAway, oddEither, doneComplex, calledComplex}
+use Rattle.timing.specs.Run.{Sync, Given, line, ran, Outcome, done, calledReal, turnedAway, doneComplex, calledComplex}
+use Rattle.timing.specs.Sparing.{Sparing}
 use Rattle.timing.proofs.Laws.Clock.{running-back, running-more}
 use Rattle.timing.proofs.Laws.Loop.{runs-count, runs-running, runs-stuck}
 use Rattle.timing.proofs.Laws.Shown.{Form, onefold, twofold, length-slice}
@@ -46,16 +49,7 @@ module _ {A : Type 0} (o : Ops A) (s : Sync A) (xs : List A) (places : ℕ) wher
   unfolding ran consumed
   ran-all h = let k = runs-stuck o (s .params) (line (s .hist) xs) (length xs) long places (s .track) h in omega arith
 
--- ---- what is promised of a call with n samples of input, and of the output ys with its `places` places of w floats
-pub record Sparing {A : Type 0} (w n places : ℕ) (ys : List Float) (r : Outcome A) : Type 0 where
-  pub produced : r .produced ≤ places
-  pub consumed : r .consumed ≤ n
-  -- a place is left only where all input is consumed
-  pub all : r .number ≡ 0 → r .produced < places → r .consumed ≡ n
-  -- the places past those produced are as found
-  pub rest : drop (w * r .produced) (r .output) ≡ drop (w * r .produced) ys
-  pub same-length : length (r .output) ≡ length ys
-
+-- ---- what a call leaves
 done-sparing : {A : Type 0} (o : Ops A) (m : Form A) (s : Sync A) (xs : List A) (places : ℕ) (ys : List Float) → m .width * places ≤ length ys → Sparing (m .width) (length xs) places ys (done (m .slice) (ran o s xs places) ys)
 done-sparing o m s xs places ys room =
     let vs = ran o s xs places .values in
@@ -80,24 +74,6 @@ module _ (s : Sync Float) (xs ys : List Float) where
   unfolding calledReal
   calledReal-sparing = done-sparing real onefold s xs (length ys) ys (omega arith)
 
--- ---- which calls on complex samples are refused
-module _ (xs ys : List Float) where
-  pub odd-input : length xs % 2 ≡ 1 → oddEither xs ys ≡ true
-  odd-input h = rw (eq-eqb (length xs % 2) 1 h)
-
-  pub odd-output : length ys % 2 ≡ 1 → oddEither xs ys ≡ true
-  odd-output h = rw (eq-eqb (length ys % 2) 1 h) (or-true (eqb (length xs % 2) 1))
-
-  pub both-even : (length xs % 2 ≡ 1 → ⊥) → (length ys % 2 ≡ 1 → ⊥) → oddEither xs ys ≡ false
-  both-even h k = rw (ne-eqb (length xs % 2) 1 h, ne-eqb (length ys % 2) 1 k)
-
-  pub even-both : oddEither xs ys ≡ false → (length xs % 2 ≡ 0) × (length ys % 2 ≡ 0)
-  even-both h =
-      let t = neither-test (eqb (length xs % 2) 1) (eqb (length ys % 2) 1) h in
-      let a = eqb-false (length xs % 2) 1 (t .0) in
-      let b = eqb-false (length ys % 2) 1 (t .1) in
-      (omega arith, omega arith)
-
 -- ---- a call on complex samples
 module _ (s : Sync C32) (xs ys : List Float) where
   -- "A refused run yields its number, counts 0 and 0, …, the same state, and every buffer unchanged."
@@ -117,10 +93,13 @@ module _ (s : Sync C32) (xs ys : List Float) where
       go true = g
       go false = ran-given complex s (samples xs) (length ys / 2) g
 
+  pub doneComplex-sparing : Sparing 2 (length xs / 2) (length ys / 2) ys (doneComplex s xs ys)
+  doneComplex-sparing = subst (λ (n : ℕ). Sparing 2 n (length ys / 2) ys (doneComplex s xs ys)) (length-samples xs) (done-sparing complex twofold s (samples xs) (length ys / 2) ys (omega arith))
+
   pub calledComplex-sparing : Sparing 2 (length xs / 2) (length ys / 2) ys (calledComplex s xs ys)
   unfolding calledComplex
   calledComplex-sparing = go (oddEither xs ys)
     where
       go : (b : Bool) → Sparing 2 (length xs / 2) (length ys / 2) ys (cond {A = Outcome C32} b (turnedAway Odd s ys) (doneComplex s xs ys))
       go true = record { produced = omega arith; consumed = omega arith; all = λ z h. absurd (omega arith); rest = refl; same-length = refl }
-      go false = subst (λ (n : ℕ). Sparing 2 n (length ys / 2) ys (doneComplex s xs ys)) (length-samples xs) (done-sparing complex twofold s (samples xs) (length ys / 2) ys (omega arith))
+      go false = doneComplex-sparing

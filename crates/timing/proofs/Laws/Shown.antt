@@ -9,13 +9,15 @@ use lib.Dec.{leb}
 use lib.ListN.{length, length-append, set}
 use lib.Seq.{sets, sets-eq, length-sets}
 use lib.Ieee.{Float}
+use Rattle.lists.proofs.Laws.Stores.{sets-append}
 use Rattle.values.specs.declared.sample.C32.{C32}
 use Rattle.values.specs.Samples.{parts}
+use Rattle.values.specs.Buffers.{written}
+use Rattle.values.proofs.Laws.Samples.{parts-none, parts-some}
 use Rattle.timing.specs.declared.params.Params.{Params}
 use Rattle.timing.specs.Sample.{Ops}
 use Rattle.timing.specs.Clock.{Able}
 use Rattle.timing.specs.Loop.{Track, Strobes, lacks, midTaken, strobed, ready, stopped, more, runs}
-use Rattle.timing.specs.Run.{written}
 use Rattle.timing.proofs.Laws.Loop.{TrackRunning, valueHere, runs-turn, runs-stop, runs-full, runs-count, ready-leb, ready-window, ready-able, midTaken-running, strobed-running}
 
 -- how samples lie in a slice of f32: the floats of one, and the slice of many
@@ -35,14 +37,6 @@ pub one-stored : (ys : List Float) (k : ℕ) (y : Float) → set ys k y ≡ sets
 one-stored ys k y = ap (λ (i : ℕ). set ys i y) (omega arith)
 
 -- two floats a sample
-pub parts-none : parts [] ≡ []
-unfolding parts
-parts-none = refl
-
-pub parts-some : (y : C32) (l : List C32) → parts (y ∷ l) ≡ y .re ∷ y .im ∷ parts l
-unfolding parts
-parts-some y l = refl
-
 abbrev pub twofold : Form C32
 twofold = record { floats = λ y. y .re ∷ y .im ∷ []; slice = parts; width = 2; wide = λ y. refl; none = parts-none; some = parts-some }
 
@@ -57,13 +51,6 @@ slice-append m (v ∷ vs) ws =
     ∙ ap (λ (l : List Float). m .floats v ++ l) (slice-append m vs ws)
     ∙ sym (append-assoc (m .floats v) (m .slice vs) (m .slice ws))
     ∙ ap (λ (l : List Float). l ++ m .slice ws) (sym (m .some v vs))
-
--- stores one after the other
-sets-append : (l : List Float) (i : ℕ) (vs ws : List Float) → sets l i (vs ++ ws) ≡ sets (sets l i vs) (i + length vs) ws
-sets-append l i [] ws = rw add-zero
-sets-append l i (a ∷ vs) ws =
-    let e : suc i + length vs ≡ i + suc (length vs) = omega arith in
-    rw (← e) (sets-append (set l i a) (suc i) vs ws)
 
 -- ---- what a run shows from place k on, over a buffer ys
 pub record Shown (A : Type 0) : Type 0 where

@@ -11,18 +11,17 @@ use lib.Ieee.{Float, fin, binary64, add, sub, mul, neg, le, lt, fits}
 use lib.Ieee.Fits.{add-fits}
 use lib.Ieee.Scale.{finite}
 use lib.Ieee.Positive.{den, den-pos}
-use Rattle.ieee.specs.Constants.{zero₀, half₀, one₀, two₀}
+use Rattle.ieee.specs.Notation.{zero₀, half₀, one₀, two₀, quarter₀}
 use Rattle.ieee.specs.Fraction.{plus, less}
-use Rattle.ieee.proofs.Test.{yes, no}
-use Rattle.ieee.proofs.Algebra.{mul-swap, sub-is}
-use Rattle.ieee.proofs.Order.{products, own-val, less-none, le→cross, cross→lt, le→vals, le-trans-float, lt→le, not-lt→le, finite-number, neg-finite, between}
-use Rattle.ieee.proofs.Rounds.{add-rounds}
-use Rattle.ieee.proofs.Held.{rounds-above}
-use Rattle.ieee.proofs.Mono.{add-mono, sub-mono, mul-mono-left, mul-nonneg}
+use Rattle.ieee.proofs.Laws.Test.{yes, no}
+use Rattle.ieee.proofs.Laws.Algebra.{mul-swap, sub-is}
+use Rattle.ieee.proofs.Laws.Order.{products, own-val, less-none, le→cross, cross→lt, le→vals, le-trans-float, lt→le, not-lt→le, finite-number, neg-finite, between}
+use Rattle.ieee.proofs.Laws.Rounds.{add-rounds}
+use Rattle.ieee.proofs.Laws.Held.{rounds-above}
+use Rattle.ieee.proofs.Laws.Mono.{add-mono, sub-mono, mul-mono-left, mul-nonneg}
 use Rattle.numbers.specs.Whole.{floored, floorPlus, floorLess}
 use Rattle.numbers.proofs.Laws.Whole.{floor-next, floor-below}
 use Rattle.numbers.proofs.Laws.Part.{floor-plain, part-nonneg, part-below-one}
-use Rattle.timing.specs.Clock.{quarter₀}
 use Rattle.timing.proofs.Laws.Half.{one-nonneg, one-up, half-is, half-left}
 use Rattle.timing.proofs.Laws.Pace.{widest₀, threeHalves₀}
 

@@ -7,16 +7,16 @@ use lib.Dec.{T}
 use lib.Ieee.{Float, binary64, add, sub, mul, neg, le, lt, fits}
 use lib.Ieee.Fits.{add-fits, sub-fits}
 use lib.Ieee.Scale.{finite}
-use Rattle.ieee.specs.Constants.{zero₀, one₀}
-use Rattle.ieee.proofs.Number.{mul-number, add-number}
-use Rattle.ieee.proofs.Order.{neg-finite, between, lt→le}
+use Rattle.ieee.specs.Notation.{zero₀, one₀, quarter₀}
+use Rattle.ieee.proofs.Laws.Number.{mul-number, add-number}
+use Rattle.ieee.proofs.Laws.Order.{neg-finite, between, lt→le}
 use Rattle.numbers.specs.Whole.{floored, floorPlus, floorLess}
 use Rattle.numbers.specs.Range.{limited}
 use Rattle.numbers.proofs.Laws.Denormal.{flush-number}
 use Rattle.numbers.proofs.Laws.Range.{limit-in}
 use Rattle.timing.specs.declared.params.Params.{Params}
 use Rattle.timing.specs.declared.clock.Clock.{Clock}
-use Rattle.timing.specs.Clock.{quarter₀, midway, newInteg, newOmega, moved, advanced}
+use Rattle.timing.specs.Clock.{midway, newInteg, newOmega, moved, advanced}
 use Rattle.timing.specs.Given.{Tuned, Steady}
 use Rattle.timing.proofs.Laws.Setup.{limits}
 use Rattle.timing.proofs.Laws.Pace.{widest₀, lim-nonneg, lim-finite, spacing-low, spacing-brisk, spacing-high, spacing-of}

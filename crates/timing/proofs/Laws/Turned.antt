@@ -11,16 +11,18 @@ use lib.Ieee.{Float}
 use Rattle.values.specs.declared.sample.C32.{C32}
 use Rattle.values.specs.declared.error.Refusal.the-variants.{Odd}
 use Rattle.values.specs.Samples.{samples, parts}
-use Rattle.values.specs.Each.{Each, none}
+use Rattle.lists.specs.Each.{Each, none}
 use Rattle.values.specs.Turn.{turnsAll, AllTurned}
-use Rattle.values.proofs.Laws.Each.{each-length}
+use Rattle.lists.proofs.Laws.Each.{each-length}
 use Rattle.values.proofs.Laws.Calls.{lists-keep}
 use Rattle.values.proofs.Laws.Samples.{length-samples, length-parts, samples-parts, samples-append}
 use Rattle.values.proofs.Laws.Turn.{turnsAll-turned}
+use Rattle.values.specs.Buffers.{written, oddEither}
+use Rattle.values.specs.TurnedCall.{Call, TurnedCall}
 use Rattle.timing.specs.declared.params.Params.{Params}
 use Rattle.timing.specs.Sample.{complex}
-use Rattle.timing.specs.Run.{Sync, fresh, Ran, Outcome, written, done, turnedAway, oddEither, doneComplex, calledComplex}
-use Rattle.timing.specs.Calls.{Call, callOf, leftBy, whole, TurnedCall, strobes, TurnedOutcome, SameClock, TurnedList}
+use Rattle.timing.specs.Run.{Sync, fresh, Ran, Outcome, done, turnedAway, doneComplex, calledComplex}
+use Rattle.timing.specs.Calls.{callOf, leftBy, whole, strobes, TurnedOutcome, SameClock, TurnedList}
 use Rattle.timing.proofs.Laws.Alike.{alike-instant}
 use Rattle.timing.proofs.Laws.TurnedRun.{TiedSync, tied-fresh, TiedRan, tied-ran}
 

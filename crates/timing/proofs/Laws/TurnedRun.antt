@@ -7,13 +7,13 @@ use lib.Dec.{ltb}
 use lib.ListN.{getD}
 use lib.Ieee.{Float}
 use Rattle.ieee.specs.Alike.{Alike}
-use Rattle.ieee.specs.Constants.{zero₀}
-use Rattle.ieee.proofs.Test.{cond-related}
-use Rattle.ieee.proofs.Like.{like-refl}
+use Rattle.ieee.specs.Notation.{zero₀}
+use Rattle.ieee.proofs.Laws.Test.{cond-related}
+use Rattle.ieee.proofs.Laws.Like.{like-refl}
 use Rattle.values.specs.declared.sample.C32.{C32}
-use Rattle.values.specs.Each.{none, more}
+use Rattle.lists.specs.Each.{none, more}
 use Rattle.values.specs.Turn.{Turned, AllTurned}
-use Rattle.values.proofs.Laws.Each.{each-length, each-getD}
+use Rattle.lists.proofs.Laws.Each.{each-length, each-getD}
 use Rattle.numbers.proofs.Laws.Narrowing.{like-narrow}
 use Rattle.timing.specs.declared.params.Ted.{Ted}
 use Rattle.timing.specs.declared.params.Ted.the-variants.{Gardner, MuellerMuller}

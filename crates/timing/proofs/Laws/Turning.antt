@@ -1,32 +1,23 @@
 -- A quarter turn and a sample's arithmetic: the interpolation and the decision turn with what they are taken of, and neither detector's error notices a turn. Assumes nothing.
-use mathlib.Core.Path.{_≡_, refl}
 use Prim.Native.Nat.{ℕ, zero, suc}
-use mathlib.Core.Bool.{Bool, true, false, cond}
-use lib.Dec.{T}
+use mathlib.Core.Bool.{Bool, true, false}
 use lib.IntN.{pos}
-use lib.Ieee.{Float, ofBits, neg, lt}
+use lib.Ieee.{Float}
 use Rattle.ieee.specs.Alike.{Like, Alike}
-use Rattle.ieee.specs.Constants.{zero₀}
-use Rattle.ieee.proofs.Like.{like-refl, like-sym, like-zero, like-minus, like-flip, like-trans, like-then, like-add-x, likes}
-use Rattle.ieee.proofs.Compare.{like-lt, like-gt, like-cond, zero-lt, lt-zero, not-both}
+use Rattle.ieee.specs.Notation.{zero₀}
+use Rattle.ieee.proofs.Laws.Like.{like-refl, like-zero, like-minus, like-flip, like-trans, like-then, like-add-x, likes}
 use Rattle.values.specs.declared.sample.C32.{C32}
 use Rattle.values.specs.Turn.{turn, turns, AlikeSample, Turned}
 use Rattle.values.proofs.Laws.Turn.{alike-refl, alike-trans, alike-turn}
-use Rattle.timing.specs.Part.{zero32, one32, interpolated, signOf}
+use Rattle.numbers.proofs.Laws.Sign.{sign-neg, alike-sign}
+use Rattle.timing.specs.Part.{interpolated}
 use Rattle.timing.specs.Sample.{complex}
 
 -- ---- the zero sample
-zero-is : zero32 ≡ zero₀
-unfolding ofBits
-zero-is = refl
-
-like-zero32 : (s : Bool) → Like s zero32 zero32
-like-zero32 s = rw zero-is (like-zero s false false (pos 0) (pos 0))
-
 pub turned-zero : (k : ℕ) → Turned k (complex .zero) (complex .zero)
 unfolding turns
 turned-zero zero = alike-refl (complex .zero)
-turned-zero (suc k) = alike-trans (record { real = like-flip (like-zero32 true); imag = like-zero32 false }) (alike-turn (turned-zero k))
+turned-zero (suc k) = alike-trans (record { real = like-flip (like-zero true false false (pos 0) (pos 0)); imag = like-refl zero₀ }) (alike-turn (turned-zero k))
 
 -- ---- the interpolation
 like-interp : {s : Bool} {w w' x x' y y' z z' mu mu' : Float} → Like s w w' → Like s x x' → Like s y y' → Like s z z' → Alike mu mu' → Like s (interpolated w x y z mu) (interpolated w' x' y' z' mu')
@@ -48,25 +39,6 @@ pub turned-interp : (k : ℕ) (w x y z : C32) {w' x' y' z' : C32} {mu mu' : Floa
 turned-interp k w x y z {mu = mu} pw px py pz pm = alike-trans (alike-interp pw px py pz pm) (interp-turns k w x y z mu)
 
 -- ---- the decision
-apart : (x : Float) → T (lt zero32 x) → T (lt x zero32) → ⊥
-unfolding ofBits
-apart x h k = not-both x (rw (zero-lt false (pos 0) x) at h) (rw (lt-zero false (pos 0) x) at k)
-
--- two tests that change places choose opposite values
-swapped-pick : {x y z : Float} (p q : Bool) → (T p → T q → ⊥) → Like true y x → Like true z z → Like true (cond q x (cond p y z)) (cond p x (cond q y z))
-swapped-pick true true h a b = absurd (h tt tt)
-swapped-pick true false h a b = a
-swapped-pick false true h a b = like-sym a
-swapped-pick false false h a b = b
-
-pub sign-neg : (x : Float) → Like true (signOf (neg x)) (signOf x)
-unfolding signOf
-sign-neg x = rw (like-gt (like-zero32 true) (like-minus x), like-gt (like-minus x) (like-zero32 true)) (swapped-pick (lt zero32 x) (lt x zero32) (apart x) (like-minus one32) (like-zero32 true))
-
-pub alike-sign : {x y : Float} → Alike x y → Alike (signOf x) (signOf y)
-unfolding signOf
-alike-sign p = like-cond (like-lt (like-refl zero32) p) (like-refl _) (like-cond (like-lt p (like-refl zero32)) (like-refl _) (like-refl _))
-
 decide-turn : (z : C32) → AlikeSample (complex .decide (turn z)) (turn (complex .decide z))
 decide-turn z = record { real = like-flip (sign-neg (z .im)); imag = like-refl _ }
 

@@ -3,7 +3,7 @@ use mathlib.Core.Path.{_≡_, refl, ap}
 use mathlib.Core.List.{List, [], _∷_, _++_}
 use Prim.Native.Nat.{suc}
 use lib.ListN.{length}
-use Rattle.values.specs.Each.{Each, none, more}
+use Rattle.lists.specs.Each.{Each, none, more}
 use Rattle.values.specs.Calls.{outcomesBy, afterBy}
 
 module _ {S C O : Type 0} (call : S → C → O) (left : O → S) where

@@ -23,6 +23,14 @@ length-parts [] = refl
 length-parts (z ∷ l) = omega (arith, length-parts l)
 
 -- ---- there and back
+pub parts-none : parts [] ≡ []
+unfolding parts
+parts-none = refl
+
+pub parts-some : (y : C32) (l : List C32) → parts (y ∷ l) ≡ y .re ∷ y .im ∷ parts l
+unfolding parts
+parts-some y l = refl
+
 pub samples-parts : (l : List C32) → samples (parts l) ≡ l
 unfolding samples parts
 samples-parts [] = refl

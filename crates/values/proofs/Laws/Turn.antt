@@ -7,14 +7,14 @@ use native.Mathlib.Omega.{arith}
 use mathlib.Core.Bool.{_&&_}
 use lib.Dec.{T}
 use lib.Ieee.{neg, eq, isNan}
-use Rattle.ieee.specs.Constants.{zero₀, one₀}
+use Rattle.ieee.specs.Notation.{zero₀, one₀}
 use Rattle.ieee.specs.Alike.{sameNumber}
-use Rattle.ieee.proofs.Algebra.{neg-neg}
-use Rattle.ieee.proofs.Like.{like-refl, like-sym, like-trans, like-neg}
+use Rattle.ieee.proofs.Laws.Algebra.{neg-neg}
+use Rattle.ieee.proofs.Laws.Like.{like-refl, like-trans, like-neg}
 use Rattle.values.specs.declared.sample.C32.{C32}
-use Rattle.values.specs.Each.{Each, none, more}
+use Rattle.lists.specs.Each.{Each, none, more}
 use Rattle.values.specs.Turn.{turn, turns, turnsAll, AlikeSample, Turned, AllTurned}
-use Rattle.values.proofs.Laws.Each.{each-map}
+use Rattle.lists.proofs.Laws.Each.{each-map}
 
 -- ---- which turn it is: two make the opposite, and of 1 it makes i
 pub turns-two : (z : C32) → turns 2 z ≡ record { re = neg (z .re); im = neg (z .im) }
@@ -31,9 +31,6 @@ turn-of-one = tt
 -- ---- samples alike
 pub alike-refl : (z : C32) → AlikeSample z z
 alike-refl z = record { real = like-refl (z .re); imag = like-refl (z .im) }
-
-pub alike-sym : {v z : C32} → AlikeSample v z → AlikeSample z v
-alike-sym p = record { real = like-sym (p .real); imag = like-sym (p .imag) }
 
 pub alike-trans : {v w z : C32} → AlikeSample v w → AlikeSample w z → AlikeSample v z
 alike-trans p q = record { real = like-trans (p .real) (q .real); imag = like-trans (p .imag) (q .imag) }

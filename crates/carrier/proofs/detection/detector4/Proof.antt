@@ -1,7 +1,7 @@
 -- `carrier::detector4` meets its contract: on either path both products are those of the definition. Assumes nothing.
 use mathlib.Core.Path.{sym, ap, _∙_}
 use lib.Ieee.{binary32, ofBits, sub, lt}
-use Rattle.ieee.specs.Constants.{zero₀}
+use Rattle.ieee.specs.Notation.{zero₀}
 use borrow.Author.Needs.{needs}
 use Rattle.carrier.proofs.detection.detector4.Statement.{statement}
 use Rattle.carrier.proofs.detection.detector4.Tie as tie

@@ -3,7 +3,7 @@ use mathlib.Core.Path.{sym, _∙_, subst}
 use mathlib.Core.Logic.{inl, inr}
 use lib.Dec.{T}
 use lib.Ieee.{ofBits}
-use Rattle.ieee.proofs.Test.{yes}
+use Rattle.ieee.proofs.Laws.Test.{yes}
 use Rattle.carrier.proofs.Laws.Sign.{sign-above, sign-below, sign-none, above-not-below}
 use Rattle.carrier.proofs.detection.sign_times.Statement.{statement}
 use Rattle.carrier.proofs.detection.sign_times.Tie as tie

@@ -2,7 +2,7 @@
 use mathlib.Core.Path.{sym, _∙_}
 use mathlib.Core.Bool.{Bool, cond}
 use lib.Ieee.{Float}
-use Rattle.ieee.specs.Constants.{zero₀}
+use Rattle.ieee.specs.Notation.{zero₀}
 use Rattle.carrier.specs.Detector.{calmed}
 use Rattle.carrier.specs.Filter.{advanced}
 use borrow.Author.Needs.{needs}

@@ -3,11 +3,10 @@ use mathlib.Core.Path.{ap, _∙_}
 use Prim.Native.Nat.{ℕ, _+_, _%_, _^_}
 use lib.Ieee.{Float, binary32, ofBits}
 use lib.Ieee.Fits.{add-fits}
-use Rattle.ieee.specs.Constants.{zero₀}
+use Rattle.ieee.specs.Notation.{zero₀, _⊕_, _⊗_}
 use Rattle.modulate.specs.Step.{phaseStep, stepOf, turn₀}
 use Rattle.modulate.proofs.Laws.StepSingle.{step-single}
 use Rattle.numbers.specs.Range.{limited}
-use Rattle.timing.specs.Part.{_⊕_, _⊗_}
 use Rattle.carrier.specs.Filter.{newFreq, advanced}
 use borrow.Author.Needs.{needs}
 use Rattle.carrier.proofs.filter.coast.Statement.{statement}

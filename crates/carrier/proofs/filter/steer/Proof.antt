@@ -2,8 +2,8 @@
 use mathlib.Core.Path.{ap, _∙_}
 use Prim.Native.Nat.{ℕ, _+_, _%_, _^_}
 use lib.Ieee.{Float}
+use Rattle.ieee.specs.Notation.{_⊕_, _⊗_}
 use Rattle.modulate.specs.Step.{phaseStep}
-use Rattle.timing.specs.Part.{_⊕_, _⊗_}
 use Rattle.carrier.specs.Filter.{newFreq, advanced}
 use borrow.Author.Needs.{needs}
 use Rattle.carrier.proofs.filter.steer.Statement.{statement}

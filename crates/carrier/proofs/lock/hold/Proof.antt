@@ -1,8 +1,9 @@
 -- `carrier::lock::hold` meets its contract: by the two tests. Assumes nothing.
 use mathlib.Core.Path.{sym}
 use mathlib.Core.Bool.{Bool, true, false, cond}
-use lib.Ieee.{ofBits, round, lt}
-use Rattle.carrier.specs.Lock.{single, held}
+use lib.Ieee.{ofBits, round, lt, binary32}
+use Rattle.ieee.specs.Notation.{decimal}
+use Rattle.carrier.specs.Lock.{held}
 use Rattle.carrier.proofs.lock.hold.Statement.{statement}
 use Rattle.carrier.proofs.lock.hold.Tie as tie
 
@@ -12,7 +13,7 @@ picked was on off = cond on true (cond off false was)
 
 returns : tie.Need-returns
 unfolding held ofBits round
-returns c = let a = c .before .args in λ j. picked (a .was) (sym (c .if1 .taken) j) (lt (a .level) (single 3 10))
+returns c = let a = c .before .args in λ j. picked (a .was) (sym (c .if1 .taken) j) (lt (a .level) (decimal binary32 3 10))
 
 returns-2 : tie.Need-returns-2
 unfolding held ofBits round

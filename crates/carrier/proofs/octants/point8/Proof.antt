@@ -1,12 +1,9 @@
 -- `carrier::octants::point8` meets its contract: the octant is below 8, so that the table is read inside. Assumes nothing.
-use mathlib.Core.Path.{_≡_, sym, ap, _∙_}
-use mathlib.Core.List.{List}
-use Prim.Native.Nat.{ℕ, _<_}
+use mathlib.Core.Path.{ap, _∙_}
 use native.Mathlib.Omega.{arith}
-use lib.ListN.{getD, length}
-use lib.Seq.{set-getD, getD-set-same}
 use lib.Ieee.{ofBits, neg}
 use borrow.Author.Needs.{needs}
+use Rattle.lists.proofs.Laws.Reading.{getD-default}
 use Rattle.carrier.specs.Octant.{points8, pointAt}
 use Rattle.carrier.proofs.Laws.Octant.{octant-below}
 use Rattle.carrier.proofs.octants.point8.Statement.{statement}
@@ -21,13 +18,9 @@ mul-result c = omega (arith, c .octant .ensures, octant-below (c .before .args .
 array-copy-out-result : tie.Need-array-copy-out-result
 array-copy-out-result c = omega (arith, c .octant .ensures, octant-below (c .before .args .y))
 
--- an entry inside a list does not depend on what is read outside
-inside : {A : Type 0} (l : List A) (k : ℕ) (d e : A) → k < length l → getD l k d ≡ getD l k e
-inside l k d e h = sym (ap (λ l. getD l k d) (set-getD l k e)) ∙ getD-set-same l k (getD l k e) d h
-
 returns : tie.Need-returns
 unfolding points8 ofBits neg
-returns c = inside points8 (c .before .octant .result) _ _ (array-copy-out-result (c .before)) ∙ ap pointAt (c .before .octant .ensures)
+returns c = getD-default points8 (c .before .octant .result) _ _ (array-copy-out-result (c .before)) ∙ ap pointAt (c .before .octant .ensures)
 
 pub point8-spec : {M : Type 1} → statement M
 point8-spec = tie.close (tie.spec octant-requires mul-result array-copy-out-result returns)

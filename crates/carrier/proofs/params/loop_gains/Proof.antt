@@ -1,10 +1,16 @@
--- `carrier::loop_gains` meets its contract: the code is the definition, operation by operation, and then narrowed. Assumes nothing.
+-- `carrier::loop_gains` meets its contract: the quotients over 2π, narrowed. Assumes nothing.
+use mathlib.Core.Path.{ap, _∙_}
 use lib.Ieee.{ofBits}
-use Rattle.timing.specs.Gains.{theta, divisor, proportional, integral}
-use Rattle.carrier.specs.Gains.{kpOf, kiOf}
 use borrow.Author.Needs.{needs}
+use Rattle.ieee.specs.Notation.{_⧄_}
+use Rattle.gains.specs.declared.quotients.Quotients.{Quotients}
+use Rattle.numbers.specs.Narrowing.{narrowed}
+use Rattle.carrier.specs.Gains.{tau, kpOf, kiOf}
 use Rattle.carrier.proofs.params.loop_gains.Statement.{statement}
 use Rattle.carrier.proofs.params.loop_gains.Tie as tie
+
+inner-gains-requires : tie.Need-inner-gains-requires
+inner-gains-requires c κs = search needs
 
 narrow-requires : tie.Need-narrow-requires
 narrow-requires c κs = search needs
@@ -13,8 +19,13 @@ narrow-requires-2 : tie.Need-narrow-requires-2
 narrow-requires-2 c κs = search needs
 
 returns : tie.Need-returns
-unfolding kpOf kiOf proportional integral theta divisor ofBits
-returns c = λ j. record { kp = c .before .narrow .ensures j; ki = c .narrow2 .ensures j }
+unfolding kpOf kiOf ofBits
+returns c =
+    let q = c .before .before .before .before .inner-gains .ensures in
+    λ j. record {
+      kp = (c .before .before .narrow .ensures ∙ ap (λ (q : Quotients). narrowed (q .kp ⧄ tau)) q) j;
+      ki = (c .narrow2 .ensures ∙ ap (λ (q : Quotients). narrowed (q .ki ⧄ tau)) q) j;
+    }
 
 pub loop-gains-spec : {M : Type 1} → statement M
-loop-gains-spec = tie.close (tie.spec narrow-requires narrow-requires-2 returns)
+loop-gains-spec = tie.close (tie.spec inner-gains-requires narrow-requires narrow-requires-2 returns)

@@ -2,8 +2,8 @@
 use mathlib.Core.Path.{_≡_, sym, ap, _∙_}
 use mathlib.Core.Bool.{Bool, true, false, cond}
 use lib.Ieee.{Float, binary32, ofBits, ne, isNan}
-use Rattle.ieee.specs.Constants.{zero₀}
-use Rattle.ieee.proofs.Nan.{differs-is}
+use Rattle.ieee.specs.Notation.{zero₀}
+use Rattle.ieee.proofs.Laws.Nan.{differs-is}
 use Rattle.numbers.specs.Denormal.{flushed}
 use Rattle.numbers.specs.Narrowing.{narrowed}
 use Rattle.numbers.specs.Range.{limited}

@@ -1,10 +1,10 @@
 -- `carrier::set_up` meets its contract: the tests that led to an answer are the rows that the definition goes by. Assumes nothing.
 use mathlib.Core.Path.{_≡_, sym, ap, _∙_, subst}
 use mathlib.Core.Bool.{true}
-use lib.Ieee.{ofBits, round}
-use Rattle.ieee.specs.Constants.{zero₀}
-use Rattle.timing.specs.Setup.{decimal, inRange}
-use Rattle.timing.proofs.Laws.Rows.{first-passed, first-refused, passes, fails}
+use lib.Ieee.{ofBits, round, binary64}
+use Rattle.ieee.specs.Notation.{zero₀, decimal}
+use Rattle.checks.specs.Range.{inRange}
+use Rattle.checks.proofs.Laws.Rows.{first-passed, first-refused, passes, fails}
 use Rattle.carrier.specs.declared.params.Params.{Params}
 use Rattle.carrier.specs.declared.state.CostasState.{CostasState}
 use Rattle.carrier.specs.declared.state.SetUp.the-variants.{Ready, Refused}
@@ -16,15 +16,15 @@ use Rattle.carrier.proofs.state.set_up.Statement.{statement}
 use Rattle.carrier.proofs.state.set_up.Tie as tie
 
 -- what the tests say of the rows that were passed
-passed1 : (c : tie.Else1) → inRange (decimal 1 10000) (c .before .before .args .loop-bw) (decimal 2 10) ≡ true
+passed1 : (c : tie.Else1) → inRange (decimal binary64 1 10000) (c .before .before .args .loop-bw) (decimal binary64 2 10) ≡ true
 unfolding ofBits round
 passed1 c = passes (c .before .within .ensures) (c .if1 .left)
 
-passed2 : (c : tie.Else2) → inRange (decimal 1 10) (c .before .before .before .before .args .damping) (decimal 4 1) ≡ true
+passed2 : (c : tie.Else2) → inRange (decimal binary64 1 10) (c .before .before .before .before .args .damping) (decimal binary64 4 1) ≡ true
 unfolding ofBits round
 passed2 c = passes (c .before .within2 .ensures) (c .if2 .left)
 
-passed3 : (c : tie.Else3) → inRange zero₀ (c .before .before .before .before .before .before .args .max-offset) (decimal 25 100) ≡ true
+passed3 : (c : tie.Else3) → inRange zero₀ (c .before .before .before .before .before .before .args .max-offset) (decimal binary64 25 100) ≡ true
 unfolding ofBits round
 passed3 c = passes (c .before .within3 .ensures) (c .if3 .left)
 

@@ -3,7 +3,7 @@ use mathlib.Core.Path.{_≡_, sym, ap}
 use Prim.Native.Nat.{ℕ, _/_, _^_}
 use native.Mathlib.Omega.{arith}
 use lib.Ieee.{ofBits, neg}
-use Rattle.ieee.specs.Constants.{one₀}
+use Rattle.ieee.specs.Notation.{one₀}
 use Rattle.values.specs.declared.sample.C32.{C32}
 use Rattle.values.specs.Turn.{turns}
 use Rattle.make_recording.proofs.source.point.Statement.{statement}

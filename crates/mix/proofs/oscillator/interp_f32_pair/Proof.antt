@@ -5,7 +5,7 @@ use Prim.Native.Nat.{ℕ, _+_, _*_, _/_, _%_, _^_}
 use native.Mathlib.Omega.{arith}
 use lib.Ieee.{Float, binary32, sub, ofBits}
 use borrow.Author.Needs.{needs}
-use Rattle.ieee.proofs.Nan.{not-above}
+use Rattle.ieee.proofs.Laws.Nan.{not-above}
 use Rattle.mix.specs.Oscillator.{between, quarterBefore}
 use Rattle.mix.specs.declared.oscillator.Pair.{Pair}
 use Rattle.mix.proofs.Laws.Fraction.{fraction-is}

@@ -1,7 +1,7 @@
 -- `modulate::modulate::phase_step` meets its contract: each way gives the same step, the constant 1/2 being read from its bits. Assumes nothing.
 use lib.Ieee.{ofBits, neg}
 use borrow.Author.Needs.{needs}
-use Rattle.ieee.proofs.Test.{yes}
+use Rattle.ieee.proofs.Laws.Test.{yes}
 use Rattle.modulate.proofs.modulate.phase_step.Statement.{statement}
 use Rattle.modulate.proofs.modulate.phase_step.Tie as tie
 

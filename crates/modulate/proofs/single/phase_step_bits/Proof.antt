@@ -5,7 +5,7 @@ use native.Mathlib.Omega.{arith}
 use lib.Dec.{T, ltb}
 use lib.Ieee.{binary32, fits, toBits}
 use borrow.Author.Needs.{needs}
-use Rattle.ieee.proofs.Test.{yes}
+use Rattle.ieee.proofs.Laws.Test.{yes}
 use Rattle.modulate.proofs.Laws.StepBits.{moved}
 use Rattle.modulate.proofs.Laws.Fields.{digits, shifted, bitsQuotient, small-number, field-le, places-room, quotient-lt, step-of-bits}
 use Rattle.modulate.proofs.single.phase_step_bits.Statement.{statement}

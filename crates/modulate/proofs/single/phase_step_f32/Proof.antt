@@ -3,7 +3,7 @@ use mathlib.Core.Path.{ap, _∙_}
 use lib.Dec.{T}
 use lib.Ieee.{Float, binary32, ofBits, neg, fits}
 use borrow.Author.Needs.{needs}
-use Rattle.ieee.proofs.Test.{yes}
+use Rattle.ieee.proofs.Laws.Test.{yes}
 use Rattle.modulate.specs.Step.{stepOf, turn₀}
 use Rattle.modulate.proofs.Laws.StepSingle.{step-single}
 use Rattle.modulate.proofs.single.phase_step_f32.Statement.{statement}

@@ -6,9 +6,9 @@ use lib.Dec.{T}
 use lib.Ieee.{binary32, binary64, fits, div, ofBits, toBits}
 use lib.Ieee.Bits.{nanBits-is}
 use Rattle.numbers.specs.Narrowing.{narrowed}
-use Rattle.ieee.proofs.Test.{yes}
-use Rattle.ieee.proofs.Bits.{withSign, sign-bit, sign-lt, parts, size-le}
-use Rattle.ieee.proofs.Nan.{not-nan, is-nan}
+use Rattle.ieee.proofs.Laws.Test.{yes}
+use Rattle.ieee.proofs.Laws.Bits.{withSign, sign-bit, sign-lt, parts, size-le}
+use Rattle.ieee.proofs.Laws.Nan.{not-nan, is-nan}
 use Rattle.numbers.proofs.Laws.Narrowing.{narrow-number, narrow-with-sign}
 use Rattle.numbers.proofs.narrowing.narrow.Statement.{statement}
 use Rattle.numbers.proofs.narrowing.narrow.Tie as tie

@@ -2,7 +2,7 @@
 use mathlib.Core.Path.{sym, ap}
 use mathlib.Core.Bool.{Bool, cond}
 use lib.Ieee.{ofBits}
-use Rattle.ieee.specs.Constants.{zero₀, one₀}
+use Rattle.ieee.specs.Notation.{zero₀, one₀}
 use Rattle.numbers.proofs.whole.above.Statement.{statement}
 use Rattle.numbers.proofs.whole.above.Tie as tie
 

@@ -2,7 +2,7 @@
 use lib.Dec.{T}
 use lib.Ieee.{Float, binary64, ofBits, neg, lt, fits}
 use Rattle.numbers.specs.Whole.{far}
-use Rattle.ieee.proofs.Test.{yes, no}
+use Rattle.ieee.proofs.Laws.Test.{yes, no}
 use Rattle.numbers.proofs.Laws.Whole.{far-above, far-below}
 use Rattle.numbers.proofs.Laws.Nearby.{nearby-below, nearby-above}
 use Rattle.numbers.proofs.whole.floor.Statement.{statement}

@@ -2,7 +2,7 @@
 use lib.Dec.{T}
 use borrow.Author.Needs.{needs}
 use lib.Ieee.{binary64, fits}
-use Rattle.ieee.proofs.Test.{yes, no}
+use Rattle.ieee.proofs.Laws.Test.{yes, no}
 use Rattle.numbers.proofs.Laws.Nearby.{floor-same, floor-off}
 use Rattle.numbers.proofs.whole.mended.Statement.{statement}
 use Rattle.numbers.proofs.whole.mended.Tie as tie

@@ -1,7 +1,7 @@
 -- `patterns::f64_of` meets its contract: above infinity's pattern stand a NaN's, and only they. Assumes nothing.
 use lib.Ieee.{binary64, div, ofBits}
 use borrow.Author.Needs.{needs}
-use Rattle.ieee.proofs.Nan.{above-nan, not-above}
+use Rattle.ieee.proofs.Laws.Nan.{above-nan, not-above}
 use Rattle.patterns.proofs.bits.f64_of.Statement.{statement}
 use Rattle.patterns.proofs.bits.f64_of.Tie as tie
 

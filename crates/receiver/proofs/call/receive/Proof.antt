@@ -3,8 +3,8 @@ use mathlib.Core.Path.{_≡_, refl}
 use Rattle.receiver.specs.Record.{Given}
 use Rattle.receiver.specs.Call.{called, outcomeOf, answered}
 use Rattle.receiver.specs.declared.call.Ran.{Ran}
-use Rattle.lent.proofs.Entry.{Entry, writes-back, function}
-use Rattle.lent.proofs.Lent.{entry-meets}
+use Rattle.lent.proofs.Laws.Entry.{Entry, writes-back, function}
+use Rattle.lent.proofs.Laws.Lent.{entry-meets}
 use Rattle.receiver.proofs.record.Receiver as receiver
 use Rattle.receiver.proofs.record.Receiver.Laws as receiver-laws
 use Rattle.values.proofs.progress.Answer as answer

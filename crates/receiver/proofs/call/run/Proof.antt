@@ -1,6 +1,10 @@
 -- `receiver::run` meets its contract: an odd buffer is refused, then lengths that differ, and else the call is what `accepted` ensures. Assumes nothing.
 use mathlib.Core.Path.{_≡_, sym, ap, _∙_, subst}
-use mathlib.Core.Bool.{false}
+use mathlib.Core.Logic.{inl, inr}
+use mathlib.Core.Bool.{true, false}
+use Prim.Native.Nat.{_%_}
+use borrow.Author.Tests.{eqb-true, eqb-false}
+use lib.ListN.{length}
 use Rattle.values.specs.declared.progress.Answer.the-variants.{Refused}
 use Rattle.values.specs.declared.error.Refusal.{Refusal}
 use Rattle.values.specs.declared.error.Refusal.the-variants.{Uneven, Odd}
@@ -26,33 +30,31 @@ refuses : (s : tie.Start) (z : Ran) (why : Refusal) → let a = s .args in z ≡
     → (answered z (a .strobes .now) (a .output .now) ≡ calledAt s) × Given (z .receiver)
 refuses s z why e d = let a = s .args in kept s (ap (λ (x : Ran). answered x (a .strobes .now) (a .output .now)) e ∙ sym d)
 
+-- the tests for odd counts: one holds
+odd : (c : tie.Joined1) → let a = c .before .before .before .before .args in oddAny (a .input .now) (a .strobes .now) (a .output .now) ≡ true
+odd c =
+    let a = c .before .before .before .before .args in
+    elim (c .if1 .came) [
+      | inl w ↦ odd-in-input (a .input .now) (a .strobes .now) (a .output .now) (w .taken)
+      | inr (inl w) ↦ odd-in-strobes (a .input .now) (a .strobes .now) (a .output .now) (eqb-true (length (a .strobes .now) % 2) 1 (w .1 .taken))
+      | inr (inr w) ↦ odd-in-output (a .input .now) (a .strobes .now) (a .output .now) (eqb-true (length (a .output .now) % 2) 1 (w .2 .taken))
+    ]
+
+-- none does
+even : (c : tie.Else3) → let a = c .before .before .before .before .before .before .args in oddAny (a .input .now) (a .strobes .now) (a .output .now) ≡ false
+even c = let a = c .before .before .before .before .before .before .args in all-even (a .input .now) (a .strobes .now) (a .output .now) (c .before .before .if1 .left) (eqb-false (length (a .strobes .now) % 2) 1 (c .before .if2 .left)) (eqb-false (length (a .output .now) % 2) 1 (c .if3 .left))
+
 refused-requires : tie.Need-refused-requires
 refused-requires c κs = search needs
 
 returns : tie.Need-returns
-returns c = let s = c .before .before .before .before .before in let a = s .args in refuses s _ Odd (c .refused .ensures) (called-odd _ _ _ _ (odd-in-input (a .input .now) (a .strobes .now) (a .output .now) (c .before .if1 .taken)))
+returns c = refuses (c .before .before .before .before .before) _ Odd (c .refused .ensures) (called-odd _ _ _ _ (odd (c .before)))
 
 refused-requires-2 : tie.Need-refused-requires-2
 refused-requires-2 c κs = search needs
 
 returns-2 : tie.Need-returns-2
-returns-2 c = let s = c .before .before .before .before .before .before in let a = s .args in refuses s _ Odd (c .refused2 .ensures) (called-odd _ _ _ _ (odd-in-strobes (a .input .now) (a .strobes .now) (a .output .now) (c .before .if2 .taken)))
-
-refused-requires-3 : tie.Need-refused-requires-3
-refused-requires-3 c κs = search needs
-
-returns-3 : tie.Need-returns-3
-returns-3 c = let s = c .before .before .before .before .before .before .before in let a = s .args in refuses s _ Odd (c .refused3 .ensures) (called-odd _ _ _ _ (odd-in-output (a .input .now) (a .strobes .now) (a .output .now) (c .before .if3 .taken)))
-
--- past the tests for odd counts
-even : (c : tie.Else3) → let a = c .before .before .before .before .before .before .args in oddAny (a .input .now) (a .strobes .now) (a .output .now) ≡ false
-even c = let a = c .before .before .before .before .before .before .args in all-even (a .input .now) (a .strobes .now) (a .output .now) (c .before .before .if1 .left) (c .before .if2 .left) (c .if3 .left)
-
-refused-requires-4 : tie.Need-refused-requires-4
-refused-requires-4 c κs = search needs
-
-returns-4 : tie.Need-returns-4
-returns-4 c = refuses (c .before .before .before .before .before .before .before .before) _ Uneven (c .refused4 .ensures) (called-uneven _ _ _ _ (even (c .before .before)) (c .before .if4 .taken))
+returns-2 c = refuses (c .before .before .before .before .before .before .before .before) _ Uneven (c .refused2 .ensures) (called-uneven _ _ _ _ (even (c .before .before)) (c .before .if4 .taken))
 
 accepted-requires : tie.Need-accepted-requires
 accepted-requires c κs = search needs
@@ -63,24 +65,10 @@ same-length c = search needs
 same-length-2 : tie.Need-same-length-2
 same-length-2 c = search needs
 
-returns-5 : tie.Need-returns-5
-returns-5 c =
+returns-3 : tie.Need-returns-3
+returns-3 c =
     let t = c .before .before .before .before .before .before .before in
     kept (t .before .before .before .before .before .before .before) (c .before .before .before .before .accepted .ensures ∙ sym (called-done _ _ _ _ (even (t .before)) (t .if4 .left)))
 
 pub run-spec : {M : Type 1} → statement M
-run-spec =
-    tie.close
-    (tie.spec
-    refused-requires
-    returns
-    refused-requires-2
-    returns-2
-    refused-requires-3
-    returns-3
-    refused-requires-4
-    returns-4
-    accepted-requires
-    same-length
-    same-length-2
-    returns-5)
+run-spec = tie.close (tie.spec refused-requires returns refused-requires-2 returns-2 accepted-requires same-length same-length-2 returns-3)

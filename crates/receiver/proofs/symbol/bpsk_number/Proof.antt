@@ -3,7 +3,7 @@ use mathlib.Core.Path.{sym}
 use mathlib.Core.Bool.{Bool, _&&_, _||_, cond}
 use Prim.Native.Nat.{ℕ}
 use lib.Ieee.{ofBits, lt, eq}
-use Rattle.ieee.specs.Constants.{zero₀}
+use Rattle.ieee.specs.Notation.{zero₀}
 use Rattle.receiver.specs.Symbol.{bpskOf}
 use Rattle.receiver.proofs.symbol.bpsk_number.Statement.{statement}
 use Rattle.receiver.proofs.symbol.bpsk_number.Tie as tie

@@ -1,6 +1,6 @@
 -- `recordings::thousandths` meets its contract, by the two tests. Assumes nothing.
 use lib.Ieee.{ofBits, neg}
-use Rattle.ieee.proofs.Test.{yes}
+use Rattle.ieee.proofs.Laws.Test.{yes}
 use Rattle.recordings.specs.Thousandths.{thousandthsOf}
 use Rattle.recordings.proofs.decimals.thousandths.Statement.{statement}
 use Rattle.recordings.proofs.decimals.thousandths.Tie as tie

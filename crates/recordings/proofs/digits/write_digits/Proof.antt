@@ -8,7 +8,7 @@ use borrow.Author.Needs.{needs}
 use Rattle.values.specs.Samples.{silence}
 use Rattle.recordings.specs.Text.{digitOf}
 use Rattle.recordings.specs.Text as spec
-use Rattle.recordings.proofs.Laws.Stores.{Stored, begins, one-more}
+use Rattle.lists.proofs.Laws.Stores.{Stored, begins, one-more}
 use Rattle.recordings.proofs.Laws.Digits.{length-digits, digit-at}
 use Rattle.recordings.proofs.digits.write_digits.Statement.{statement}
 use Rattle.recordings.proofs.digits.write_digits.Tie as tie

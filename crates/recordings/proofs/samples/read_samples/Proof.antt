@@ -4,10 +4,10 @@ use Prim.Native.Nat.{ℕ, _*_, _/_, _-_, _≤_}
 use native.Mathlib.Omega.{arith}
 use lib.ListN.{length, take}
 use lib.Seq.{sets}
-use Rattle.ieee.specs.Constants.{zero₀}
+use Rattle.ieee.specs.Notation.{zero₀}
 use borrow.Author.Needs.{needs}
 use Rattle.recordings.specs.Samples.{floats, held}
-use Rattle.recordings.proofs.Laws.Stores.{Stored, begins, one-more}
+use Rattle.lists.proofs.Laws.Stores.{Stored, begins, one-more}
 use Rattle.recordings.proofs.Laws.Floats.{length-floats}
 use Rattle.recordings.proofs.samples.read_samples.Statement.{statement}
 use Rattle.recordings.proofs.samples.read_samples.Tie as tie

@@ -7,7 +7,7 @@ use lib.Seq.{sets}
 use lib.Ieee.{nan}
 use borrow.Author.Needs.{needs}
 use Rattle.recordings.specs.Samples as spec
-use Rattle.recordings.proofs.Laws.Stores.{Stored, begins}
+use Rattle.lists.proofs.Laws.Stores.{Stored, begins}
 use Rattle.recordings.proofs.Laws.Floats.{no-bytes, f32-more}
 use Rattle.recordings.proofs.samples.write_samples.Statement.{statement}
 use Rattle.recordings.proofs.samples.write_samples.Tie as tie

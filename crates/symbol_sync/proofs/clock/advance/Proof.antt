@@ -2,9 +2,10 @@
 use mathlib.Core.Path.{_≡_, sym, ap, _∙_, subst}
 use Prim.Native.Nat.{ℕ, _+_, _<_, _^_}
 use lib.Ieee.{Float, binary64, ofBits, add, sub, mul}
+use Rattle.ieee.specs.Notation.{quarter₀}
 use Rattle.numbers.specs.Range.{limited}
 use Rattle.numbers.specs.Whole.{floored}
-use Rattle.timing.specs.Clock.{quarter₀, newInteg, newOmega, moved, advanced}
+use Rattle.timing.specs.Clock.{newInteg, newOmega, moved, advanced}
 use borrow.Author.Needs.{needs}
 use Rattle.timing.proofs.Laws.Place.{on-asks, on-room, on-place}
 use Rattle.symbol_sync.proofs.clock.advance.Statement.{statement}

@@ -4,7 +4,7 @@ use mathlib.Core.Logic.{⊎-elim}
 use mathlib.Core.Bool.{Bool, cond}
 use Prim.Native.Nat.{ℕ, _≤_}
 use native.Mathlib.Omega.{arith}
-use Rattle.ieee.proofs.Test.{yes}
+use Rattle.ieee.proofs.Laws.Test.{yes}
 use Rattle.timing.specs.Clock.{midIndex}
 use Rattle.symbol_sync.specs.declared.clock.Place.{Place}
 use Rattle.symbol_sync.proofs.clock.consumed.Statement.{statement}

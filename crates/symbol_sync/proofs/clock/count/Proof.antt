@@ -10,7 +10,7 @@ use lib.Ieee.Back.{float-back-unsigned, positive-back}
 use mir.Syntax.{w64}
 use mir.Val.{Fits, toZ, ofZ}
 use mir.Facts.{toZ-ofZ}
-use Rattle.ieee.proofs.Test.{yes}
+use Rattle.ieee.proofs.Laws.Test.{yes}
 use Rattle.symbol_sync.proofs.clock.count.Statement.{statement}
 use Rattle.symbol_sync.proofs.clock.count.Tie as tie
 

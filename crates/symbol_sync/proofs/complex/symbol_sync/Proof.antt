@@ -3,8 +3,8 @@ use mathlib.Core.Path.{_≡_, refl}
 use Rattle.timing.specs.Run.{Given, calledComplex}
 use Rattle.symbol_sync.specs.Complex.{sync, outcomeOf, answered}
 use Rattle.symbol_sync.specs.declared.complex.Ran.{Ran}
-use Rattle.lent.proofs.Entry.{Entry, writes-back, function}
-use Rattle.lent.proofs.Lent.{entry-meets}
+use Rattle.lent.proofs.Laws.Entry.{Entry, writes-back, function}
+use Rattle.lent.proofs.Laws.Lent.{entry-meets}
 use Rattle.symbol_sync.proofs.complex.SymbolSyncState as state
 use Rattle.symbol_sync.proofs.complex.SymbolSyncState.Laws as state-laws
 use Rattle.values.proofs.progress.Answer as answer

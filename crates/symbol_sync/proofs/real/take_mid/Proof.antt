@@ -2,7 +2,7 @@
 use mathlib.Core.Path.{_≡_, refl, sym, ap, _∙_}
 use mathlib.Core.Bool.{true}
 use native.Mathlib.Omega.{arith}
-use Rattle.ieee.proofs.Test.{yes}
+use Rattle.ieee.proofs.Laws.Test.{yes}
 use Rattle.timing.specs.Sample.{real}
 use Rattle.timing.specs.Loop.{lacks, valueAt}
 use Rattle.symbol_sync.specs.declared.clock.Place.{Place}

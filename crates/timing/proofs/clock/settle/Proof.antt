@@ -1,11 +1,12 @@
 -- `timing::settle` meets its contract: by the flag, then by the test for a finite error, which a cast to f64 keeps. Assumes nothing.
 use mathlib.Core.Path.{sym, _∙_}
+use mathlib.Core.Logic.{inl, inr}
 use mathlib.Core.Bool.{Bool, cond}
 use lib.Ieee.{Float, ofBits}
 use lib.Ieee.Scale.{finite}
-use Rattle.ieee.specs.Constants.{zero₀}
-use Rattle.ieee.proofs.Test.{yes}
-use Rattle.ieee.proofs.Nan.{finite-not-nan}
+use Rattle.ieee.specs.Notation.{zero₀}
+use Rattle.ieee.proofs.Laws.Test.{yes}
+use Rattle.ieee.proofs.Laws.Nan.{finite-not-nan}
 use Rattle.timing.specs.Clock.{settled}
 use borrow.Author.Needs.{needs}
 use Rattle.timing.proofs.clock.settle.Statement.{statement}
@@ -27,12 +28,12 @@ returns c = λ j. picked (c .before .before .before .before .args .e) (sym (c .b
 
 returns-2 : tie.Need-returns-2
 unfolding settled ofBits
-returns-2 c = λ j. picked (c .before .before .before .args .e) (sym (c .before .before .if1 .taken) j) ((sym (c .if2 .left) ∙ c .before .is-finite-f32 .ensures) j)
-
-returns-3 : tie.Need-returns-3
-unfolding settled ofBits
-returns-3 c = λ j. picked (c .before .args .e) (sym (c .if1 .left) j) (finite (c .before .args .e))
+returns-2 c =
+    let e = c .before .args .e in
+    elim (c .if1 .came) [
+      | inl w ↦ λ j. picked e (sym (w .0 .taken) j) ((sym (w .2 .left) ∙ w .1 .ensures) j)
+      | inr w ↦ λ j. picked e (sym (w .left) j) (finite e)
+    ]
 
 pub settle-spec : {M : Type 1} → statement M
-settle-spec =
-    tie.close (tie.spec is-finite-f32-requires float-to-float-result returns returns-2 returns-3)
+settle-spec = tie.close (tie.spec is-finite-f32-requires float-to-float-result returns returns-2)

@@ -3,8 +3,8 @@ use mathlib.Core.Path.{_≡_, refl}
 use Rattle.carrier.specs.Run.{called}
 use Rattle.train_receiver.specs.Carrier.{stateOf, outcomeOf, Given}
 use Rattle.train_receiver.specs.declared.carrier_loop.CarrierRan.{CarrierRan}
-use Rattle.lent.proofs.Entry.{Entry, writes-back, function}
-use Rattle.lent.proofs.Lent.{entry-meets}
+use Rattle.lent.proofs.Laws.Entry.{Entry, writes-back, function}
+use Rattle.lent.proofs.Laws.Lent.{entry-meets}
 use Rattle.train_receiver.proofs.carrier_loop.Carrier as state
 use Rattle.train_receiver.proofs.carrier_loop.Carrier.Laws as state-laws
 use denote.Struct.Field.{u32-field}

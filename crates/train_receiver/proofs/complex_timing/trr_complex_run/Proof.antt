@@ -3,8 +3,8 @@ use mathlib.Core.Path.{_≡_, refl}
 use Rattle.timing.specs.Run.{calledComplex}
 use Rattle.train_receiver.specs.ComplexTiming.{syncOf, outcomeOf, Given}
 use Rattle.train_receiver.specs.declared.complex_timing.ComplexRan.{ComplexRan}
-use Rattle.lent.proofs.Entry.{Entry, writes-back, function}
-use Rattle.lent.proofs.Lent.{entry-meets}
+use Rattle.lent.proofs.Laws.Entry.{Entry, writes-back, function}
+use Rattle.lent.proofs.Laws.Lent.{entry-meets}
 use Rattle.train_receiver.proofs.complex_timing.ComplexTiming as state
 use Rattle.train_receiver.proofs.complex_timing.ComplexTiming.Laws as state-laws
 use Rattle.train_receiver.proofs.params.Counts as answer

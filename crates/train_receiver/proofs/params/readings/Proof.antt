@@ -1,4 +1,4 @@
--- `train_receiver::params::readings` meets its contract: the two readings are the clock's own. Assumes nothing.
+-- `train_receiver::params::readings` meets its contract: the two readings are the clock's. Assumes nothing.
 use Rattle.train_receiver.specs.Timing.{readingsOf}
 use borrow.Author.Needs.{needs}
 use Rattle.train_receiver.proofs.params.readings.Statement.{statement}
@@ -7,13 +7,10 @@ use Rattle.train_receiver.proofs.params.readings.Tie as tie
 next-strobe-requires : tie.Need-next-strobe-requires
 next-strobe-requires c κs = search needs
 
-sps-estimate-requires : tie.Need-sps-estimate-requires
-sps-estimate-requires c κs = search needs
-
 returns : tie.Need-returns
 returns c =
-    let a = c .before .before .args in
-    λ j. record { values = readingsOf (a .p) (a .c) .values; «next_strobe» = c .before .next-strobe .ensures j; «sps_estimate» = c .sps-estimate .ensures j }
+    let a = c .before .args in
+    λ j. record { values = readingsOf (a .p) (a .c) .values; «next_strobe» = c .next-strobe .ensures j; «sps_estimate» = a .c .omega }
 
 pub readings-spec : {M : Type 1} → statement M
-readings-spec = tie.close (tie.spec next-strobe-requires sps-estimate-requires returns)
+readings-spec = tie.close (tie.spec next-strobe-requires returns)

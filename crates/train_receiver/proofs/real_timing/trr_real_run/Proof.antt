@@ -4,8 +4,8 @@ use Rattle.timing.specs.Run.{calledReal}
 use Rattle.symbol_sync.specs.Real.{outcomeOf}
 use Rattle.train_receiver.specs.RealTiming.{syncOf, Given}
 use Rattle.train_receiver.specs.declared.real_timing.RealRan.{RealRan}
-use Rattle.lent.proofs.Entry.{Entry, writes-back, function}
-use Rattle.lent.proofs.Lent.{entry-meets}
+use Rattle.lent.proofs.Laws.Entry.{Entry, writes-back, function}
+use Rattle.lent.proofs.Laws.Lent.{entry-meets}
 use Rattle.train_receiver.proofs.real_timing.RealTiming as state
 use Rattle.train_receiver.proofs.real_timing.RealTiming.Laws as state-laws
 use Rattle.values.proofs.progress.Progress as answer

@@ -3,8 +3,8 @@ use mathlib.Core.Path.{_≡_, refl}
 use Rattle.receiver.specs.Call.{called}
 use Rattle.train_receiver.specs.Whole.{receiverOf, outcomeOf, Given}
 use Rattle.train_receiver.specs.declared.whole.ReceiverRan.{ReceiverRan}
-use Rattle.lent.proofs.Entry.{Entry, writes-back, function}
-use Rattle.lent.proofs.Lent.{entry-meets}
+use Rattle.lent.proofs.Laws.Entry.{Entry, writes-back, function}
+use Rattle.lent.proofs.Laws.Lent.{entry-meets}
 use Rattle.train_receiver.proofs.whole.Receiver as state
 use Rattle.train_receiver.proofs.whole.Receiver.Laws as state-laws
 use Rattle.train_receiver.proofs.params.Counts as answer

@@ -1,0 +1,47 @@
+-- Worked cases of the carrier loop: two octants, two of QPSK's measures, and the lock's rules at their ends. (The phase steps are in `modulate`.) Definitions only.
+use mathlib.Core.Path.{_≡_}
+use mathlib.Core.Bool.{Bool, true, false}
+use lib.Ieee.{Float, binary32, ofBits}
+use Rattle.ieee.specs.Notation.{zero₀, half₀, one₀, decimal}
+use Rattle.values.specs.declared.sample.C32.{C32}
+use Rattle.values.specs.Samples.{silence}
+use Rattle.carrier.specs.declared.constellation.CostasConstellation.the-variants.{Qpsk}
+use Rattle.carrier.specs.declared.lock.Metric.{Metric}
+use Rattle.carrier.specs.declared.lock.Metric.the-variants.{Number, Nothing}
+use Rattle.carrier.specs.Octant.{octantOf, decisionOf}
+use Rattle.carrier.specs.Lock.{metricOf, held}
+
+-- (1, 1) and (0, 1)
+abbrev diagonal : C32
+diagonal = record { re = one₀; im = one₀ }
+
+abbrev upright : C32
+upright = record { re = zero₀; im = one₀ }
+
+abbrev qpskMetric : C32 → Metric
+qpskMetric y = metricOf Qpsk y (decisionOf Qpsk y)
+
+-- the f32 next above 0.5 and the one next below 0.3
+abbrev above-half : Float
+above-half = ofBits binary32 0x3f000001
+
+abbrev below-three-tenths : Float
+below-three-tenths = ofBits binary32 0x3e999999
+
+pub record Cases : Type 0 where
+  -- "8-PSK (1, 1): octant 1"
+  pub octant-diagonal : octantOf diagonal ≡ 1
+  -- "(0, 1): 2"
+  pub octant-upright : octantOf upright ≡ 2
+  -- "QPSK measure (1, 1): 1"
+  pub qpsk-diagonal : qpskMetric diagonal ≡ Number one₀
+  -- "silence: none"
+  pub qpsk-silence : qpskMetric silence ≡ Nothing
+  -- "Level 0.5 sets no lock"
+  pub half-keeps : (was : Bool) → held was half₀ ≡ was
+  -- "0.3 clears none"
+  pub three-tenths-keeps : (was : Bool) → held was (decimal binary32 3 10) ≡ was
+  -- "above 0.5 sets lock"
+  pub above-half-sets : (was : Bool) → held was above-half ≡ true
+  -- "below 0.3 clears it"
+  pub below-three-tenths-clears : (was : Bool) → held was below-three-tenths ≡ false

@@ -1,0 +1,24 @@
+-- `checks::above_zero` meets its contract: by the test for a finite value. Assumes nothing.
+use mathlib.Core.Path.{refl, sym, ap, _∙_}
+use mathlib.Core.Bool.{Bool, _&&_}
+use lib.Ieee.{ofBits, lt}
+use borrow.Author.Needs.{needs}
+use Rattle.ieee.specs.Notation.{zero₀}
+use Rattle.ieee.proofs.Laws.Test.{and-held, and-failed}
+use Rattle.checks.specs.Range.{positive}
+use Rattle.checks.proofs.range.above_zero.Statement.{statement}
+use Rattle.checks.proofs.range.above_zero.Tie as tie
+
+is-finite-f64-requires : tie.Need-is-finite-f64-requires
+is-finite-f64-requires c κs = search needs
+
+returns : tie.Need-returns
+unfolding positive ofBits
+returns c = and-held (sym (c .before .is-finite-f64 .ensures) ∙ c .if1 .taken) refl
+
+returns-2 : tie.Need-returns-2
+unfolding positive
+returns-2 c = and-failed _ (sym (c .before .is-finite-f64 .ensures) ∙ c .if1 .left) (c .before .is-finite-f64 .ensures)
+
+pub above-zero-spec : {M : Type 1} → statement M
+above-zero-spec = tie.close (tie.spec is-finite-f64-requires returns returns-2)

@@ -1,0 +1,8 @@
+-- The laws of this crate's definitions.
+pub mod Along
+pub mod Rules
+pub mod System
+pub mod Doubling
+pub mod Gap
+pub mod Nearest
+pub mod Once

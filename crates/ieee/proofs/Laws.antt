@@ -1,0 +1,23 @@
+-- The laws of this crate's definitions.
+pub mod Test
+pub mod Nan
+pub mod Round
+pub mod Algebra
+pub mod Like
+pub mod Compare
+pub mod Order
+pub mod Magnitude
+pub mod Unique
+pub mod Bits
+pub mod Rounds
+pub mod Number
+pub mod Cancel
+pub mod Held
+pub mod Exact
+pub mod Mono
+pub mod Span
+pub mod Apart
+pub mod Error
+pub mod Even
+pub mod NotFinite
+pub mod Scaled

@@ -1,0 +1,5 @@
+-- The laws of this crate's definitions.
+pub mod Entry
+pub mod Outputs
+pub mod Locals
+pub mod Lent

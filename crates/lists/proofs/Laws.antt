@@ -1,0 +1,4 @@
+-- Laws of lists that have nothing to do with what the lists hold.
+pub mod Each
+pub mod Reading
+pub mod Stores

@@ -1,0 +1,21 @@
+-- Lists related entry by entry: their lengths, an entry, a map. Assumes nothing.
+use mathlib.Core.Path.{_≡_, refl, ap}
+use mathlib.Core.List.{List, map}
+use Prim.Native.Nat.{ℕ, zero, suc}
+use lib.ListN.{length, getD}
+use Rattle.lists.specs.Each.{Each, none, more}
+
+module _ {A B : Type 0} {R : A → B → Type 0} where
+  pub each-length : {l : List A} {m : List B} → Each R l m → length l ≡ length m
+  each-length none = refl
+  each-length (more r rs) = ap suc (each-length rs)
+
+  pub each-getD : {l : List A} {m : List B} {a : A} {b : B} (i : ℕ) → Each R l m → R a b → R (getD l i a) (getD m i b)
+  each-getD i none d = d
+  each-getD zero (more r rs) d = r
+  each-getD (suc i) (more r rs) d = each-getD i rs d
+
+-- functions that take related entries to related ones
+pub each-map : {A B C D : Type 0} {R : A → B → Type 0} {Q : C → D → Type 0} (f : A → C) (g : B → D) → ((a : A) (b : B) → R a b → Q (f a) (g b)) → {l : List A} {m : List B} → Each R l m → Each Q (map f l) (map g m)
+each-map f g h none = none
+each-map f g h (more {a = a} {b = b} r rs) = more (h a b r) (each-map f g h rs)
