@@ -9,7 +9,7 @@ use lib.Ieee.{Float}
 use Rattle.values.specs.declared.sample.C32.{C32}
 use Rattle.values.specs.Samples.{samples}
 use Rattle.timing.specs.Sample.{complex}
-use Rattle.symbol_sync.specs.Complex.{sync}
+use Rattle.complex_sync.specs.Views.{sync}
 use Rattle.receiver.specs.declared.record.Receiver.{Receiver}
 use Rattle.receiver.specs.Call.{Outcome, called, accepts}
 use Rattle.receiver.specs.Calls.{Call, whole, strobesOf, outputsOf}

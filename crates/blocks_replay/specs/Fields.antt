@@ -6,9 +6,9 @@ use Rattle.values.specs.declared.sample.C32.{C32}
 use Rattle.timing.specs.declared.params.Ted.{Ted}
 use Rattle.timing.specs.declared.params.Params.{Params}
 use Rattle.timing.specs.declared.clock.Clock.{Clock}
-use Rattle.symbol_sync.specs.declared.complex.Hist.{Hist}
-use Rattle.symbol_sync.specs.declared.complex.Track.{Track}
-use Rattle.symbol_sync.specs.declared.complex.SymbolSyncState.{SymbolSyncState}
+use Rattle.complex_sync.specs.declared.state.Hist.{Hist}
+use Rattle.complex_sync.specs.declared.state.Track.{Track}
+use Rattle.complex_sync.specs.declared.state.SymbolSyncState.{SymbolSyncState}
 use Rattle.carrier.specs.declared.constellation.CostasConstellation.{CostasConstellation}
 use Rattle.carrier.specs.declared.params.Params as carrier
 use Rattle.carrier.specs.declared.filter.Nco.{Nco}

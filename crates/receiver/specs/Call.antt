@@ -12,7 +12,7 @@ use Rattle.values.specs.Refusal.{numberOf}
 use Rattle.values.specs.Answer as answer
 use Rattle.values.specs.Buffers.{written, oddEither}
 use Rattle.timing.specs.Run.{doneComplex}
-use Rattle.symbol_sync.specs.Complex.{sync, stateOf}
+use Rattle.complex_sync.specs.Views.{sync, stateOf}
 use Rattle.carrier.specs.Run as carrier
 use Rattle.receiver.specs.declared.record.Receiver.{Receiver}
 use Rattle.receiver.specs.declared.call.Ran.{Ran}

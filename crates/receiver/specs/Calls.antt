@@ -11,7 +11,7 @@ use Rattle.lists.specs.Each.{Each}
 use Rattle.values.specs.Calls.{outcomesBy, afterBy}
 use Rattle.values.specs.Turn.{turnsAll, AllTurned}
 use Rattle.timing.specs.Calls.{SameClock}
-use Rattle.symbol_sync.specs.Complex.{sync}
+use Rattle.complex_sync.specs.Views.{sync}
 use Rattle.carrier.specs.declared.constellation.CostasConstellation.{CostasConstellation}
 use Rattle.carrier.specs.Calls.{turnsLess, SameCarrier}
 use Rattle.receiver.specs.declared.record.Receiver.{Receiver}

@@ -12,7 +12,7 @@ use Rattle.timing.specs.Setup as timing
 use Rattle.timing.specs.Sample.{complex}
 use Rattle.timing.specs.declared.params.Params.{Params}
 use Rattle.timing.specs.Run as run
-use Rattle.symbol_sync.specs.Complex.{sync, stateOf}
+use Rattle.complex_sync.specs.Views.{sync, stateOf}
 use Rattle.carrier.specs.declared.constellation.CostasConstellation.{CostasConstellation}
 use Rattle.carrier.specs.declared.constellation.CostasConstellation.the-variants.{Bpsk}
 use Rattle.carrier.specs.declared.params.Params as carrierParams

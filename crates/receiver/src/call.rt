@@ -1,7 +1,6 @@
 // A sample call: timing into the strobe buffer, then the carrier over the strobes produced, into the
 // output.
 use crate::record::Receiver;
-use symbol_sync::complex;
 use values::Answer;
 use values::Refusal;
 ghost use mathlib.Core.Path.{_≡_};
@@ -39,7 +38,7 @@ fn accepted(r: Receiver, input: &[f32], strobes: &mut [f32], output: &mut [f32])
 {
     let t = r.timing;
     let c = r.carrier;
-    let timed = complex::recover(t, input, strobes);
+    let timed = complex_sync::recover(t, input, strobes);
     let progress = timed.progress;
     let produced = progress.produced;
     let n = 2 * produced;

@@ -1,8 +1,7 @@
 // The receiver record, its set-up, reset, phase setting and readings.
 use carrier::CostasConstellation;
 use carrier::CostasState;
-use symbol_sync::complex;
-use symbol_sync::complex::SymbolSyncState;
+use complex_sync::SymbolSyncState;
 use timing::Ted;
 use values::Refusal;
 ghost use mathlib.Core.Path.{_≡_};
@@ -59,7 +58,7 @@ pub fn set_up(constellation: CostasConstellation, t: TimingValues, c: CarrierVal
     ensures given { λ r. ⌜ SetUpGiven r ⌝ }
 {
     let ted = t.ted;
-    let answer = complex::set_up(
+    let answer = complex_sync::set_up(
         t.sps,
         ted,
         t.loop_bw,
@@ -68,7 +67,7 @@ pub fn set_up(constellation: CostasConstellation, t: TimingValues, c: CarrierVal
         t.ted_gain,
     );
     match answer {
-        complex::SetUp::Ready(timing) => {
+        complex_sync::SetUp::Ready(timing) => {
             let answer = carrier::set_up(constellation, c.loop_bw, c.damping, c.max_offset);
             match answer {
                 carrier::SetUp::Ready(carrier) => {
@@ -82,7 +81,7 @@ pub fn set_up(constellation: CostasConstellation, t: TimingValues, c: CarrierVal
                 carrier::SetUp::Refused(n) => SetUp::Refused(n),
             }
         }
-        complex::SetUp::Refused(n) => SetUp::Refused(n),
+        complex_sync::SetUp::Refused(n) => SetUp::Refused(n),
     }
 }
 
@@ -103,7 +102,7 @@ pub fn reset(r: Receiver) -> Receiver
     let t = r.timing;
     let c = r.carrier;
     Receiver {
-        timing: complex::reset(t),
+        timing: complex_sync::reset(t),
         carrier: carrier::reset(c),
         count: 0,
     }

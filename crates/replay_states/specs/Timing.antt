@@ -8,7 +8,7 @@ use Rattle.values.specs.declared.sample.C32.{C32}
 use Rattle.timing.specs.declared.params.Params.{Params}
 use Rattle.timing.specs.declared.clock.Clock.{Clock}
 use Rattle.timing.specs.Clock.{nextStrobe}
-use Rattle.symbol_sync.specs.declared.complex.SymbolSyncState.{SymbolSyncState}
+use Rattle.complex_sync.specs.declared.state.SymbolSyncState.{SymbolSyncState}
 use Rattle.replay.specs.declared.line.Operation.{Operation}
 use Rattle.replay.specs.Line.{has}
 use Rattle.replay_states.specs.Codes.{codeOfDetector}

@@ -9,11 +9,11 @@
 //   y  previous strobe, previous decision, middle
 //   f  integrator, middle held + 2 started, next strobe
 use crate::codes::detector_code;
+use complex_sync::SymbolSyncState;
 use replay::Operation;
 use replay::floats_agree;
 use replay::word;
 use replay::words_agree;
-use symbol_sync::complex::SymbolSyncState;
 use timing::Clock;
 use timing::Params;
 use values::C32;

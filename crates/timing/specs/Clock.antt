@@ -52,6 +52,10 @@ moved p c e =
     let step = limited (p .kp ⊠ e) (omega ⊠ quarter₀) in
     (c .mu ⊞ omega) ⊞ step
 
+-- the clock of a fresh state: position 4, which is input sample 1, the first with a full window
+abbrev pub freshClock : Float → Clock
+freshClock sps = record { i = 4; mu = zero₀; omega = sps; integ = zero₀ }
+
 -- "i grows by floor(v), mu = v - floor(v)"
 unfoldable pub advanced : Params → Clock → Float → Clock
 advanced p c e = let v = moved p c e in record { i = wholeAt (c .i) v; mu = partOf v; omega = newOmega p c e; integ = newInteg p c e }
@@ -84,7 +88,3 @@ pub record On (i : ℕ) (v : Float) : Type 0 where
   pub above : T (lt zero₀ v)
   pub room : i + floorPlus v < 2 ^ 64
   pub small : floorPlus v < 2 ^ 53
-
--- the clock can take any finite error
-abbrev pub Able : Params → Clock → Type 0
-Able p c = (e : Float) → T (finite e) → On (c .i) (moved p c e)

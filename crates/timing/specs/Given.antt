@@ -1,6 +1,6 @@
 -- What holds of every state that a set-up, a reset or a run has given, and while a run loops. No sample enters. Definitions only.
 use mathlib.Core.Path.{_≡_}
-use Prim.Native.Nat.{ℕ, _+_, _≤_}
+use Prim.Native.Nat.{ℕ, _+_, _≤_, _<_, _^_}
 use mathlib.Core.Bool.{Bool, true}
 use lib.Dec.{T}
 use lib.Ieee.{binary64, neg, le, lt, fits}
@@ -39,3 +39,20 @@ pub record Running (p : Params) (c : Clock) (mid : Bool) (n : ℕ) : Type 0 wher
   pub first : 1 ≤ c .i
   pub far : c .i ≤ n + 1312501
   pub mid-first : T mid → 1 ≤ midIndex c
+
+-- ---- the clock of a given state, and while a run loops over n samples of input: what its steps require
+abbrev pub GivenClock : Clock → Bool → ℕ → Type 0
+GivenClock c mid n = (p : Params) × Running p c mid n
+
+-- whose middle is lacking
+abbrev pub GivenMiddle : Clock → Type 0
+GivenMiddle c = (n : ℕ) × GivenClock c true n
+
+-- whose strobe can be worked out
+pub record GivenStrobe (p : Params) (c : Clock) : Type 0 where
+  pub mid : Bool
+  pub ahead : ℕ
+  pub running : Running p c mid ahead
+  pub there : c .i ≤ ahead
+  -- a slice has fewer than 2^63 places
+  pub small : ahead < 2 ^ 63

@@ -5,7 +5,6 @@ use mathlib.Core.List.{List, _∷_}
 use lib.Dec.{T}
 use lib.ListN.{length, getD}
 use lib.Ieee.{Float}
-use Rattle.ieee.specs.Notation.{zero₀}
 use Rattle.values.specs.declared.sample.C32.{C32}
 use Rattle.values.specs.declared.error.Refusal.{Refusal}
 use Rattle.values.specs.declared.error.Refusal.the-variants.{Odd}
@@ -16,6 +15,7 @@ use Rattle.timing.specs.declared.params.Params.{Params}
 use Rattle.timing.specs.declared.setup.Tuning.{Tuning}
 use Rattle.timing.specs.declared.setup.Tuning.the-variants.{Accepted, Refused}
 use Rattle.timing.specs.Sample.{Ops, real, complex}
+use Rattle.timing.specs.Clock.{freshClock}
 use Rattle.timing.specs.Loop.{Track, lacks, runs, consumed, trackBack}
 use Rattle.timing.specs.Given.{Running}
 
@@ -42,7 +42,7 @@ fresh o p =
     record {
       params = p;
       hist = record { a = z; b = z; c = z };
-      track = record { clock = record { i = 4; mu = zero₀; omega = p .sps; integ = zero₀ }; yPrev = z; dPrev = z; mid = z; midReady = false; started = false };
+      track = record { clock = freshClock (p .sps); yPrev = z; dPrev = z; mid = z; midReady = false; started = false };
     }
 
 -- a set-up's answer: "A refused set-up yields its number and no state."

@@ -2,8 +2,8 @@
 use mathlib.Core.Bool.{true}
 use lib.Dec.{T}
 use Rattle.timing.specs.Run.{Given}
-use Rattle.symbol_sync.specs.Real as real
-use Rattle.symbol_sync.specs.Complex as complex
+use Rattle.real_sync.specs.Views as real
+use Rattle.complex_sync.specs.Views as complex
 use Rattle.timing_replay.specs.declared.slot.Slot.{Slot}
 use Rattle.timing_replay.specs.declared.slot.Slot.the-variants.{Empty, Real, Complex}
 

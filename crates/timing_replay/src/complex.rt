@@ -1,11 +1,11 @@
 // Playing a line on a state of complex samples.
+use complex_sync;
+use complex_sync::SymbolSyncState;
 use replay::Operation;
 use replay_states::answer_agrees;
 use replay_states::complex_agrees;
-use symbol_sync::complex;
-use symbol_sync::complex::SymbolSyncState;
 ghost use Rattle.timing.specs.Run.{Given};
-ghost use Rattle.symbol_sync.specs.Complex.{sync};
+ghost use Rattle.complex_sync.specs.Views.{sync};
 
 // Runs on as much of the buffers as the line says, and not at all if they have less.
 fn run(

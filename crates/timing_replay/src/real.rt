@@ -1,4 +1,6 @@
 // Playing a line on a state of real samples.
+use real_sync;
+use real_sync::SymbolSyncState;
 use replay::Operation;
 use replay::word;
 use replay::words_agree;
@@ -6,10 +8,8 @@ use replay_states::clock_agrees;
 use replay_states::params_agree;
 use replay_states::progress_agrees;
 use replay_states::rest_agrees;
-use symbol_sync::real;
-use symbol_sync::real::SymbolSyncState;
 ghost use Rattle.timing.specs.Run.{Given};
-ghost use Rattle.symbol_sync.specs.Real.{sync};
+ghost use Rattle.real_sync.specs.Views.{sync};
 
 fn samples_agree(a: f32, b: f32, c: f32, op: Operation) -> bool {
     words_agree(word(a, 0.0), word(b, 0.0), word(c, 0.0), op)

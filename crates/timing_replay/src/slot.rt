@@ -1,14 +1,14 @@
 // The state that the lines are played on, of either kind, and its set-up.
 use crate::complex as complex_line;
 use crate::real as real_line;
+use complex_sync;
+use real_sync;
 use replay::Operation;
 use replay_states::detector_of;
-use symbol_sync::complex;
-use symbol_sync::real;
 use timing::Ted;
 ghost use Rattle.timing.specs.Run.{OpeningGiven};
-ghost use Rattle.symbol_sync.specs.Real as realSync;
-ghost use Rattle.symbol_sync.specs.Complex as complexSync;
+ghost use Rattle.real_sync.specs.Views as realSync;
+ghost use Rattle.complex_sync.specs.Views as complexSync;
 ghost use Rattle.timing_replay.specs.Slot.{SlotGiven};
 
 // The state, once a set-up was accepted.

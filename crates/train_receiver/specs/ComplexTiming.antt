@@ -7,7 +7,7 @@ use Rattle.values.specs.declared.sample.C32.{C32}
 use Rattle.values.specs.Refusal.{numberOf}
 use Rattle.values.specs.Samples.{silence}
 use Rattle.timing.specs.Run.{Sync, Opening, opened, refused, Outcome}
-use Rattle.symbol_sync.specs.Complex.{hist, track}
+use Rattle.complex_sync.specs.Views.{hist, track}
 use Rattle.train_receiver.specs.declared.params.Counts.{Counts}
 use Rattle.train_receiver.specs.declared.complex_timing.ComplexTiming.{ComplexTiming}
 use Rattle.train_receiver.specs.declared.complex_timing.ComplexSetUp.{ComplexSetUp}

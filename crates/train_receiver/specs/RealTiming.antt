@@ -4,7 +4,7 @@ use lib.Ieee.{Float}
 use Rattle.ieee.specs.Notation.{zero₀}
 use Rattle.values.specs.Refusal.{numberOf}
 use Rattle.timing.specs.Run.{Sync, Opening, opened, refused}
-use Rattle.symbol_sync.specs.Real.{hist, track}
+use Rattle.real_sync.specs.Views.{hist, track}
 use Rattle.train_receiver.specs.declared.real_timing.RealTiming.{RealTiming}
 use Rattle.train_receiver.specs.declared.real_timing.RealSetUp.{RealSetUp}
 use Rattle.train_receiver.specs.Timing.{paramsOf, paramsRecord, noParams}

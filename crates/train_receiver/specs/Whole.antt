@@ -3,8 +3,8 @@ use Prim.Native.Nat.{_<_}
 use mathlib.Core.List.{List}
 use lib.Ieee.{Float}
 use Rattle.values.specs.Refusal.{numberOf}
-use Rattle.symbol_sync.specs.Complex.{sync}
-use Rattle.symbol_sync.specs.Complex as complex
+use Rattle.complex_sync.specs.Views.{sync}
+use Rattle.complex_sync.specs.Views as complex
 use Rattle.receiver.specs.declared.record.Receiver as declaredReceiver
 use Rattle.receiver.specs.declared.record.TimingValues as declaredValues
 use Rattle.receiver.specs.declared.record.SetUp.{SetUp}

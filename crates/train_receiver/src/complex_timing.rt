@@ -7,17 +7,16 @@ use crate::params::TimingValues;
 use crate::params::counts_of;
 use crate::params::params_of;
 use crate::params::params_record;
-use symbol_sync::complex;
-use symbol_sync::complex::Hist;
-use symbol_sync::complex::SymbolSyncState;
-use symbol_sync::complex::Track;
+use complex_sync::Hist;
+use complex_sync::SymbolSyncState;
+use complex_sync::Track;
 use timing::Clock;
 use values::C32;
 ghost use mathlib.Core.Path.{_≡_};
 ghost use Rattle.timing.specs.Sample.{complex as complexOps};
 ghost use Rattle.timing.specs.Setup.{tuned};
 ghost use Rattle.timing.specs.Run.{fresh, openedBy, calledComplex};
-ghost use Rattle.symbol_sync.specs.Complex.{sync};
+ghost use Rattle.complex_sync.specs.Views.{sync};
 ghost use Rattle.train_receiver.specs.Codes.{detectorOf};
 ghost use Rattle.train_receiver.specs.Timing.{paramsOf, readingsOf};
 ghost use Rattle.train_receiver.specs.ComplexTiming.{syncOf, recordOf, none, setUpOf, outcomeOf, Given};
@@ -103,7 +102,7 @@ pub extern "C" fn trr_complex_set_up(v: TimingValues) -> ComplexSetUp
     ensures outcome { λ r. ⌜ r ≡ setUpOf (openedBy complexOps (tuned (v .sps) (detectorOf (v .ted)) (v .«loop_bw») (v .damping) (v .«max_deviation») (v .«ted_gain»))) ⌝ }
     ensures given { λ r. ⌜ (r .number ≡ 0 → Given (r .state)) ⌝ }
 {
-    let answer = complex::set_up(
+    let answer = complex_sync::set_up(
         v.sps,
         detector(v.ted),
         v.loop_bw,
@@ -112,11 +111,11 @@ pub extern "C" fn trr_complex_set_up(v: TimingValues) -> ComplexSetUp
         v.ted_gain,
     );
     match answer {
-        complex::SetUp::Ready(s) => ComplexSetUp {
+        complex_sync::SetUp::Ready(s) => ComplexSetUp {
             number: 0,
             state: record_of(s),
         },
-        complex::SetUp::Refused(n) => ComplexSetUp {
+        complex_sync::SetUp::Refused(n) => ComplexSetUp {
             number: n.number(),
             state: no_state(),
         },
@@ -130,7 +129,7 @@ pub extern "C" fn trr_complex_reset(x: ComplexTiming) -> ComplexTiming
     ensures state { λ r. ⌜ r ≡ recordOf (fresh complexOps (paramsOf (x .params))) ⌝ }
     ensures given { λ r. ⌜ Given r ⌝ }
 {
-    record_of(complex::reset(state_of(x)))
+    record_of(complex_sync::reset(state_of(x)))
 }
 
 // What the state tells of itself.
@@ -154,7 +153,7 @@ fn run(x: ComplexTiming, input: &[f32], output: &mut [f32]) -> ComplexRan
     ensures outcome { λ r. ⌜ outcomeOf (r .counts) (r .state) (now (output .exit)) ≡ calledComplex (syncOf x) (now (input .entry)) (now (output .entry)) ⌝ }
     ensures given { λ r. ⌜ Given (r .state) ⌝ }
 {
-    let ran = complex::run(state_of(x), input, output);
+    let ran = complex_sync::run(state_of(x), input, output);
     let answer = ran.answer;
     let s = ran.state;
     ComplexRan {

@@ -5,17 +5,16 @@ use crate::params::TimingReadings;
 use crate::params::TimingValues;
 use crate::params::params_of;
 use crate::params::params_record;
-use symbol_sync::real;
-use symbol_sync::real::Hist;
-use symbol_sync::real::SymbolSyncState;
-use symbol_sync::real::Track;
+use real_sync::Hist;
+use real_sync::SymbolSyncState;
+use real_sync::Track;
 use timing::Clock;
 use values::Progress;
 ghost use mathlib.Core.Path.{_≡_};
 ghost use Rattle.timing.specs.Sample.{real as realOps};
 ghost use Rattle.timing.specs.Setup.{tuned};
 ghost use Rattle.timing.specs.Run.{fresh, openedBy, calledReal};
-ghost use Rattle.symbol_sync.specs.Real.{sync, outcomeOf};
+ghost use Rattle.real_sync.specs.Views.{sync, outcomeOf};
 ghost use Rattle.train_receiver.specs.Codes.{detectorOf};
 ghost use Rattle.train_receiver.specs.Timing.{paramsOf, readingsOf};
 ghost use Rattle.train_receiver.specs.RealTiming.{syncOf, recordOf, none, setUpOf, Given};
@@ -100,7 +99,7 @@ pub extern "C" fn trr_real_set_up(v: TimingValues) -> RealSetUp
     ensures outcome { λ r. ⌜ r ≡ setUpOf (openedBy realOps (tuned (v .sps) (detectorOf (v .ted)) (v .«loop_bw») (v .damping) (v .«max_deviation») (v .«ted_gain»))) ⌝ }
     ensures given { λ r. ⌜ (r .number ≡ 0 → Given (r .state)) ⌝ }
 {
-    let answer = real::set_up(
+    let answer = real_sync::set_up(
         v.sps,
         detector(v.ted),
         v.loop_bw,
@@ -109,11 +108,11 @@ pub extern "C" fn trr_real_set_up(v: TimingValues) -> RealSetUp
         v.ted_gain,
     );
     match answer {
-        real::SetUp::Ready(s) => RealSetUp {
+        real_sync::SetUp::Ready(s) => RealSetUp {
             number: 0,
             state: record_of(s),
         },
-        real::SetUp::Refused(n) => RealSetUp {
+        real_sync::SetUp::Refused(n) => RealSetUp {
             number: n.number(),
             state: no_state(),
         },
@@ -127,7 +126,7 @@ pub extern "C" fn trr_real_reset(x: RealTiming) -> RealTiming
     ensures state { λ r. ⌜ r ≡ recordOf (fresh realOps (paramsOf (x .params))) ⌝ }
     ensures given { λ r. ⌜ Given r ⌝ }
 {
-    record_of(real::reset(state_of(x)))
+    record_of(real_sync::reset(state_of(x)))
 }
 
 // What the state tells of itself.
@@ -151,7 +150,7 @@ fn run(x: RealTiming, input: &[f32], output: &mut [f32]) -> RealRan
     ensures outcome { λ r. ⌜ outcomeOf (r .counts) (syncOf (r .state)) (now (output .exit)) ≡ calledReal (syncOf x) (now (input .entry)) (now (output .entry)) ⌝ }
     ensures given { λ r. ⌜ Given (r .state) ⌝ }
 {
-    let ran = real::run(state_of(x), input, output);
+    let ran = real_sync::run(state_of(x), input, output);
     let counts = ran.progress;
     let s = ran.state;
     RealRan {

@@ -14,7 +14,7 @@ use Rattle.values.specs.Buffers.{written}
 use Rattle.timing.specs.Sample.{complex}
 use Rattle.timing.specs.Run.{Ran, ran}
 use Rattle.timing.proofs.Laws.Turned.{written-back}
-use Rattle.symbol_sync.specs.Complex.{sync, stateOf}
+use Rattle.complex_sync.specs.Views.{sync, stateOf}
 use Rattle.cosine.specs.Table.{cosList}
 use Rattle.carrier.specs.Step.{Symbols, runs}
 use Rattle.carrier.proofs.Laws.Count.{runs-count}

@@ -11,7 +11,7 @@ use Rattle.values.specs.Samples.{samples}
 use Rattle.values.proofs.Laws.Samples.{samples-append, samples-rest}
 use Rattle.timing.specs.Sample.{complex}
 use Rattle.timing.proofs.Laws.Run.{ran-produced}
-use Rattle.symbol_sync.specs.Complex.{sync}
+use Rattle.complex_sync.specs.Views.{sync}
 use Rattle.receiver.specs.declared.record.Receiver.{Receiver}
 use Rattle.receiver.specs.Record.{Given}
 use Rattle.receiver.specs.Call.{accepts}

@@ -17,7 +17,7 @@ use Rattle.values.proofs.Laws.Samples.{length-samples}
 use Rattle.timing.specs.Sample.{complex}
 use Rattle.timing.specs.Run.{Ran, ran}
 use Rattle.timing.proofs.Laws.Run.{ran-all}
-use Rattle.symbol_sync.specs.Complex.{sync}
+use Rattle.complex_sync.specs.Views.{sync}
 use Rattle.receiver.specs.declared.record.Receiver.{Receiver}
 use Rattle.receiver.specs.Record.{Given}
 use Rattle.receiver.specs.Call.{accepts, oddAny}

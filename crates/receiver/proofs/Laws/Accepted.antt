@@ -11,8 +11,8 @@ use Rattle.values.specs.Buffers.{written}
 use Rattle.timing.specs.Run.{doneComplex}
 use Rattle.timing.specs.Run as run
 use Rattle.timing.proofs.Laws.Run.{doneComplex-sparing}
-use Rattle.symbol_sync.specs.declared.complex.Recovered.{Recovered}
-use Rattle.symbol_sync.specs.Complex.{sync, stateOf, recovered}
+use Rattle.complex_sync.specs.declared.loops.Recovered.{Recovered}
+use Rattle.complex_sync.specs.Views.{sync, stateOf, recovered}
 use Rattle.carrier.specs.declared.state.CostasState.{CostasState}
 use Rattle.carrier.specs.Run as carrier
 use Rattle.carrier.proofs.Laws.Carried.{carried-all}

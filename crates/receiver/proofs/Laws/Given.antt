@@ -14,7 +14,7 @@ use Rattle.timing.specs.Sample.{complex}
 use Rattle.timing.specs.Run.{doneComplex}
 use Rattle.timing.proofs.Laws.Run.{ran-given}
 use Rattle.timing.proofs.Laws.Fresh as timing
-use Rattle.symbol_sync.specs.Complex.{sync}
+use Rattle.complex_sync.specs.Views.{sync}
 use Rattle.carrier.proofs.Laws.Given as carrier
 use Rattle.receiver.specs.declared.record.Receiver.{Receiver}
 use Rattle.receiver.specs.Record.{restarted, phaseSet, Given}

@@ -17,8 +17,8 @@ use Rattle.timing.specs.declared.setup.Tuning.the-variants as tuning
 use Rattle.timing.specs.Sample.{complex}
 use Rattle.timing.specs.Run.{Sync, openedBy}
 use Rattle.timing.specs.Run as run
-use Rattle.symbol_sync.specs.declared.complex.SymbolSyncState.{SymbolSyncState}
-use Rattle.symbol_sync.specs.Complex.{sync, stateOf}
+use Rattle.complex_sync.specs.declared.state.SymbolSyncState.{SymbolSyncState}
+use Rattle.complex_sync.specs.Views.{sync, stateOf}
 use Rattle.carrier.specs.declared.constellation.CostasConstellation.{CostasConstellation}
 use Rattle.carrier.specs.declared.state.SetUp as carrierAnswer
 use Rattle.carrier.specs.declared.state.SetUp.the-variants as carrierSetUp

@@ -16,7 +16,7 @@ use Rattle.values.specs.Buffers.{written}
 use Rattle.values.proofs.Laws.Buffers.{written-length}
 use Rattle.timing.specs.Run.{doneComplex}
 use Rattle.timing.proofs.Laws.Run.{doneComplex-sparing}
-use Rattle.symbol_sync.specs.Complex.{sync}
+use Rattle.complex_sync.specs.Views.{sync}
 use Rattle.carrier.specs.Run as carrier
 use Rattle.carrier.proofs.Laws.Count.{done-length}
 use Rattle.receiver.specs.declared.record.Receiver.{Receiver}

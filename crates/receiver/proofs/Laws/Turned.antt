@@ -26,7 +26,7 @@ use Rattle.timing.proofs.Laws.TurnedRun.{TiedSync, tied-ran}
 use Rattle.timing.proofs.Laws.TurnedRun as timingRun
 use Rattle.timing.proofs.Laws.Turned.{written-back, same-clock}
 use Rattle.timing.proofs.Laws.Turned as timing
-use Rattle.symbol_sync.specs.Complex.{sync}
+use Rattle.complex_sync.specs.Views.{sync}
 use Rattle.cosine.specs.Table.{cosList}
 use Rattle.carrier.specs.declared.constellation.CostasConstellation.{CostasConstellation}
 use Rattle.carrier.specs.declared.params.Params as carrierParams

@@ -12,9 +12,9 @@ use Rattle.ieee.proofs.Laws.Order.{le-trans-float, neg-le}
 use Rattle.numbers.specs.Whole.{floorPlus, floorLess}
 use Rattle.timing.specs.declared.params.Params.{Params}
 use Rattle.timing.specs.declared.clock.Clock.{Clock}
-use Rattle.timing.specs.Clock.{midway, midIndex, advanced, settled, Back, Able}
+use Rattle.timing.specs.Clock.{midway, midIndex, advanced, moved, settled, Back, On}
 use Rattle.timing.specs.Loop.{clockBack}
-use Rattle.timing.specs.Given.{Tuned, Steady, Running}
+use Rattle.timing.specs.Given.{Tuned, Steady, Running, GivenMiddle, GivenStrobe}
 use Rattle.timing.proofs.Laws.Pace.{lim-nonneg, spacing-own}
 use Rattle.timing.proofs.Laws.Middle.{mid-finite, mid-back, mid-near}
 use Rattle.timing.proofs.Laws.Strobe.{beat, v-fits, v-finite, v-above, v-far, advanced-steady, advanced-i, middle-on}
@@ -45,7 +45,7 @@ kept i s = record { mu-fits = s .mu-fits; mu-low = s .mu-low; mu-high = s .mu-hi
 
 -- ---- n samples of input are ahead
 -- the clock can take any finite error
-pub running-able : (p : Params) (c : Clock) (b : Bool) (n : ℕ) → Running p c b n → c .i ≤ n → n < 2 ^ 63 → Able p c
+pub running-able : (p : Params) (c : Clock) (b : Bool) (n : ℕ) → Running p c b n → c .i ≤ n → n < 2 ^ 63 → (e : Float) → T (finite e) → On (c .i) (moved p c e)
 running-able p c b n g h k e E =
     let t = g .params in
     let s = g .steady in
@@ -67,6 +67,10 @@ running-advanced p c b n g e E h b′ =
 pub running-ready : (p : Params) (c : Clock) (b : Bool) (n : ℕ) → Running p c b n → Running p c false n
 running-ready p c b n g = record { params = g .params; steady = g .steady; first = g .first; far = g .far; mid-first = λ x. absurd x }
 
+-- so can a given one whose strobe can be worked out take the detector's error, once it is settled
+pub strobe-moves : {p : Params} {c : Clock} → GivenStrobe p c → (started : Bool) (e : Float) → On (c .i) (moved p c (settled started e))
+strobe-moves {p} {c} g started e = running-able p c (g .mid) (g .ahead) (g .running) (g .there) (g .small) (settled started e) (settled-finite started e)
+
 -- the middle's place lies back of the strobe's
 pub running-mid : (p : Params) (c : Clock) (b : Bool) (n : ℕ) → Running p c b n → T b → Back (c .i) (midway c)
 running-mid p c b n g l =
@@ -75,6 +79,9 @@ running-mid p c b n g l =
     let k = d .near in
     let m = g .mid-first l in
     record { v-fits = unfold midway in sub-fits binary64 (c .mu) (mul binary64 (c .omega) half₀); v-finite = d .is; not-on = z; room = omega arith; small = omega arith }
+
+pub middle-back : {c : Clock} → GivenMiddle c → Back (c .i) (midway c)
+middle-back {c} g = running-mid (g .1 .0) c true (g .0) (g .1 .1) tt
 
 -- the next place needed is 1 or more, and not past the strobe's
 pub running-pending : (p : Params) (c : Clock) (b : Bool) (n : ℕ) → Running p c b n → let k = cond b (midIndex c) (c .i) in (1 ≤ k) × (k ≤ c .i)

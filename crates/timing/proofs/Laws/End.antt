@@ -4,15 +4,14 @@ use mathlib.Core.Bool.{Bool, cond}
 use mathlib.Core.List.{List}
 use Prim.Native.Nat.{ℕ, _-_, _≤_, min}
 use native.Mathlib.Omega.{arith}
-use lib.Dec.{T}
 use lib.ListN.{length}
 use lib.Ieee.{Float}
 use Rattle.timing.specs.Sample.{Ops}
-use Rattle.timing.specs.Clock.{midway, midIndex, Back}
-use Rattle.timing.specs.Given.{Running}
+use Rattle.timing.specs.Clock.{midIndex}
+use Rattle.timing.specs.Given.{Running, GivenClock}
 use Rattle.timing.specs.Loop.{Track, lacks, runs, pending, consumed, trackBack}
 use Rattle.timing.specs.Run.{Hist, Sync, Given, line, histAt, ran, done}
-use Rattle.timing.proofs.Laws.Clock.{running-mid, running-pending, running-more}
+use Rattle.timing.proofs.Laws.Clock.{running-pending, running-more}
 use Rattle.timing.proofs.Laws.Loop.{TrackRunning, runs-running}
 use Rattle.timing.proofs.Laws.Shown.{Form, Ended}
 
@@ -25,8 +24,8 @@ module _ {A : Type 0} (o : Ops A) (s : Sync A) (xs : List A) (places n : ℕ) (c
         let g = runs-running o p (line (s .hist) xs) n (omega arith) places (s .track) (running-more p (s .track .clock) (lacks p (s .track)) n given) in
         subst (λ (b : Bool). Running p (u .clock) b n) (sym lacks-it) (subst (TrackRunning p n) (sym last) g)
 
-    pub end-asks : (T lacking → Back (u .clock .i) (midway (u .clock))) × (1 ≤ cond lacking (midIndex (u .clock)) (u .clock .i))
-    end-asks = (running-mid (s .params) (u .clock) lacking n left-running, running-pending (s .params) (u .clock) lacking n left-running .0)
+    pub end-asks : GivenClock (u .clock) lacking n
+    end-asks = (s .params, left-running)
 
     pub end-back : {k : ℕ} → k ≡ min (cond lacking (midIndex (u .clock)) (u .clock .i) - 1) n → k ≤ u .clock .i
     end-back e = let h = running-pending (s .params) (u .clock) lacking n left-running in omega arith

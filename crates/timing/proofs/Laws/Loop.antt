@@ -12,10 +12,10 @@ use Rattle.timing.specs.declared.params.Ted.{Ted}
 use Rattle.timing.specs.declared.params.Ted.the-variants.{Gardner, MuellerMuller}
 use Rattle.timing.specs.declared.params.Params.{Params}
 use Rattle.timing.specs.Sample.{Ops}
-use Rattle.timing.specs.Clock.{midIndex, midPart, lacking, Able}
-use Rattle.timing.specs.Given.{Running}
+use Rattle.timing.specs.Clock.{midIndex, midPart, lacking}
+use Rattle.timing.specs.Given.{Running, GivenStrobe}
 use Rattle.timing.specs.Loop.{Track, Strobes, lacks, there, valueAt, withMid, midTaken, strobed, ready, stopped, more, runs, pending}
-use Rattle.timing.proofs.Laws.Clock.{settled-finite, running-able, running-advanced, running-ready}
+use Rattle.timing.proofs.Laws.Clock.{settled-finite, running-advanced, running-ready}
 
 -- what holds of a track while a run loops, with n samples of input
 abbrev pub TrackRunning : {A : Type 0} → Params → ℕ → Track A → Type 0
@@ -50,8 +50,8 @@ module _ {A : Type 0} (p : Params) (l : List A) (n : ℕ) (long : length l ≡ n
   pub ready-window : ready p l s ≡ true → TrackRunning p n s → (1 ≤ s .clock .i) × (s .clock .i ≤ n)
   ready-window r g = (g .first, ready-near r)
 
-  pub ready-able : ready p l s ≡ true → TrackRunning p n s → n < 2 ^ 63 → Able p (s .clock)
-  ready-able r g h = running-able p (s .clock) (lacks p s) n g (ready-near r) h
+  pub ready-strobe : ready p l s ≡ true → TrackRunning p n s → n < 2 ^ 63 → GivenStrobe p (s .clock)
+  ready-strobe r g h = record { mid = lacks p s; ahead = n; running = g; there = ready-near r; small = h }
 
 module _ {A : Type 0} (o : Ops A) (p : Params) (l : List A) where
   -- ---- the turns of a run, where k of q places are done

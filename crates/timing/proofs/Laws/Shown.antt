@@ -16,9 +16,9 @@ use Rattle.values.specs.Buffers.{written}
 use Rattle.values.proofs.Laws.Samples.{parts-none, parts-some}
 use Rattle.timing.specs.declared.params.Params.{Params}
 use Rattle.timing.specs.Sample.{Ops}
-use Rattle.timing.specs.Clock.{Able}
+use Rattle.timing.specs.Given.{GivenStrobe}
 use Rattle.timing.specs.Loop.{Track, Strobes, lacks, midTaken, strobed, ready, stopped, more, runs}
-use Rattle.timing.proofs.Laws.Loop.{TrackRunning, valueHere, runs-turn, runs-stop, runs-full, runs-count, ready-leb, ready-window, ready-able, midTaken-running, strobed-running}
+use Rattle.timing.proofs.Laws.Loop.{TrackRunning, valueHere, runs-turn, runs-stop, runs-full, runs-count, ready-leb, ready-window, ready-strobe, midTaken-running, strobed-running}
 
 -- how samples lie in a slice of f32: the floats of one, and the slice of many
 pub record Form (A : Type 0) : Type 0 where
@@ -123,8 +123,8 @@ module _ {A : Type 0} {o : Ops A} {m : Form A} {p : Params} {l : List A} {n q : 
       pub turn-window : not can ≡ false → (1 ≤ t .clock .i) × (t .clock .i ≤ n)
       turn-window h = ready-window p l n (u .long) t (tells h) mid-running
 
-      pub turn-able : not can ≡ false → Able p (t .clock)
-      turn-able h = ready-able p l n (u .long) t (tells h) mid-running (u .input-small)
+      pub turn-strobe : not can ≡ false → GivenStrobe p (t .clock)
+      turn-strobe h = ready-strobe p l n (u .long) t (tells h) mid-running (u .input-small)
 
       -- the strobe y is stored, and v is the track after it
       pub goes-on : k < q → not can ≡ false → {y : A} → y ≡ valueHere o l t → {v : Track A} → v ≡ strobed o p t y → {zs : List Float} → zs ≡ sets ys (m .width * k) (m .floats y) → Underway o m p l n q s₀ ys₀ v zs (k + 1)

@@ -48,14 +48,13 @@ module _ {A : Type 0} (o : Ops A) (p : Params) (h : Hist A) (xs : List A) (n : �
   mid-too-far lack beyond = sym (mid-by o p (line h xs) s lack (near-within ∙ lt-leb _ _ beyond))
 
 -- ---- the strobe y
-pub strobed-parts : {A : Type 0} (o : Ops A) (p : Params) (s : Track A) (y d : A) (x e : Float) (c : Clock) (ready : Bool)
+pub strobed-parts : {A : Type 0} (o : Ops A) (p : Params) (s : Track A) (y d : A) (x : Float) (c : Clock) (ready : Bool)
     → d ≡ decision o (p .ted) (s .dPrev) y
     → x ≡ errorOf o (p .ted) s y d
-    → e ≡ settled (s .started) x
-    → c ≡ advanced p (s .clock) e
+    → c ≡ advanced p (s .clock) (settled (s .started) x)
     → ready ≡ midLeft (p .ted) (s .midReady)
     → record { clock = c; yPrev = y; dPrev = d; mid = s .mid; midReady = ready; started = true } ≡ strobed o p s y
 unfolding strobed
-strobed-parts o p s y d x e c ready is-d is-x is-e is-c is-ready =
-    let clock-is = is-c ∙ ap (advanced p (s .clock)) (is-e ∙ ap (settled (s .started)) (is-x ∙ ap (errorOf o (p .ted) s y) is-d)) in
+strobed-parts o p s y d x c ready is-d is-x is-c is-ready =
+    let clock-is = is-c ∙ ap (λ (e : Float). advanced p (s .clock) (settled (s .started) e)) (is-x ∙ ap (errorOf o (p .ted) s y) is-d) in
     λ j. record { clock = clock-is j; yPrev = y; dPrev = is-d j; mid = s .mid; midReady = is-ready j; started = true }

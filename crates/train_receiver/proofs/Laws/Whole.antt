@@ -9,8 +9,8 @@ use lib.ListN.{length}
 use lib.Ieee.{Float}
 use Rattle.values.specs.declared.error.Refusal.the-variants.{Uneven, Odd}
 use Rattle.timing.specs.Run as run
-use Rattle.symbol_sync.specs.Complex.{sync}
-use Rattle.symbol_sync.specs.Complex as complex
+use Rattle.complex_sync.specs.Views.{sync}
+use Rattle.complex_sync.specs.Views as complex
 use Rattle.receiver.specs.declared.record.Receiver as declaredReceiver
 use Rattle.receiver.specs.Record as receiver
 use Rattle.receiver.specs.Call.{Outcome, turnedAway, oddAny, done, called}

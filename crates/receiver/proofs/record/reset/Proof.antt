@@ -1,6 +1,6 @@
 -- `receiver::reset` meets its contract: both loops are reset, and the count is 0. Assumes nothing.
 use lib.Dec.{lit<}
-use Rattle.symbol_sync.specs.Complex.{stateOf}
+use Rattle.complex_sync.specs.Views.{stateOf}
 use borrow.Author.Needs.{needs}
 use Rattle.receiver.proofs.record.reset.Statement.{statement}
 use Rattle.receiver.proofs.record.reset.Tie as tie

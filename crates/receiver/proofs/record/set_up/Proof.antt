@@ -2,8 +2,8 @@
 use mathlib.Core.Path.{_≡_, sym, ap, _∙_, subst}
 use lib.Dec.{lit<}
 use Rattle.timing.specs.Run.{OpeningGiven}
-use Rattle.symbol_sync.specs.declared.complex.SetUp as timingSetUp
-use Rattle.symbol_sync.specs.Complex.{opening}
+use Rattle.complex_sync.specs.declared.state.SetUp as timingSetUp
+use Rattle.complex_sync.specs.Views.{opening}
 use Rattle.carrier.specs.declared.state.SetUp as carrierSetUp
 use Rattle.carrier.specs.State.{SetUpGiven}
 use Rattle.receiver.specs.Record.{opened}

@@ -4,7 +4,7 @@ use mathlib.Core.Path.{_≡_, sym, ap, _∙_}
 use Prim.Native.Nat.{ℕ}
 use mathlib.Core.Bool.{Bool, cond}
 use borrow.Author.Tests.{ne-eqb}
-use Rattle.symbol_sync.specs.declared.complex.SymbolSyncState.{SymbolSyncState}
+use Rattle.complex_sync.specs.declared.state.SymbolSyncState.{SymbolSyncState}
 use Rattle.replay.specs.declared.line.Operation.{Operation}
 use Rattle.replay_states.specs.Timing.{byLetter, sameComplex}
 use borrow.Author.Needs.{needs}

@@ -1,7 +1,7 @@
 -- `timing_replay::slot::opened_complex` meets its contract: by what the set-up answered. Assumes nothing.
 use mathlib.Core.Path.{subst}
 use Rattle.timing.specs.Run.{OpeningGiven}
-use Rattle.symbol_sync.specs.Complex.{opening}
+use Rattle.complex_sync.specs.Views.{opening}
 use borrow.Author.Needs.{needs}
 use Rattle.timing_replay.proofs.slot.opened_complex.Statement.{statement}
 use Rattle.timing_replay.proofs.slot.opened_complex.Tie as tie

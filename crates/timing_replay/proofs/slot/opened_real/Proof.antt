@@ -1,7 +1,7 @@
 -- `timing_replay::slot::opened_real` meets its contract: by what the set-up answered. Assumes nothing.
 use mathlib.Core.Path.{subst}
 use Rattle.timing.specs.Run.{OpeningGiven}
-use Rattle.symbol_sync.specs.Real.{opening}
+use Rattle.real_sync.specs.Views.{opening}
 use borrow.Author.Needs.{needs}
 use Rattle.timing_replay.proofs.slot.opened_real.Statement.{statement}
 use Rattle.timing_replay.proofs.slot.opened_real.Tie as tie

@@ -5,8 +5,8 @@ use Rattle.timing.specs.declared.params.Ted.{Ted}
 use Rattle.timing.specs.Sample.{complex}
 use Rattle.timing.specs.Setup.{tuned}
 use Rattle.timing.specs.Run.{Opening, OpeningGiven, openedBy}
-use Rattle.symbol_sync.specs.declared.complex.SetUp.{SetUp}
-use Rattle.symbol_sync.specs.Complex.{opening}
+use Rattle.complex_sync.specs.declared.state.SetUp.{SetUp}
+use Rattle.complex_sync.specs.Views.{opening}
 use Rattle.train_receiver.specs.Codes.{detectorOf}
 use Rattle.train_receiver.specs.ComplexTiming.{setUpOf}
 use Rattle.train_receiver.proofs.Laws.Codes.{refused-not-done}

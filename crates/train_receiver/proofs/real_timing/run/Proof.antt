@@ -2,7 +2,7 @@
 use mathlib.Core.Path.{ap, _∙_}
 use lib.Ieee.{Float}
 use Rattle.timing.specs.Run.{Sync, calledReal}
-use Rattle.symbol_sync.specs.Real.{outcomeOf}
+use Rattle.real_sync.specs.Views.{outcomeOf}
 use Rattle.train_receiver.proofs.Laws.Recorded.{stands, stays-given, came-given}
 use Rattle.train_receiver.proofs.Laws.Timing.{real-faithful}
 use borrow.Author.Needs.{needs}

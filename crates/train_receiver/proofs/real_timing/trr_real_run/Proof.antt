@@ -1,7 +1,7 @@
 -- `train_receiver::real_timing::trr_real_run` meets its contract: it is the entry of the crate `lent`, with one output, at the real loop's record and its counts. Assumes nothing.
 use mathlib.Core.Path.{_≡_, refl}
 use Rattle.timing.specs.Run.{calledReal}
-use Rattle.symbol_sync.specs.Real.{outcomeOf}
+use Rattle.real_sync.specs.Views.{outcomeOf}
 use Rattle.train_receiver.specs.RealTiming.{syncOf, Given}
 use Rattle.train_receiver.specs.declared.real_timing.RealRan.{RealRan}
 use Rattle.lent.proofs.Laws.Entry.{Entry, writes-back, function}

@@ -5,8 +5,8 @@ use Rattle.timing.specs.declared.params.Ted.{Ted}
 use Rattle.timing.specs.Sample.{real}
 use Rattle.timing.specs.Setup.{tuned}
 use Rattle.timing.specs.Run.{Opening, OpeningGiven, openedBy}
-use Rattle.symbol_sync.specs.declared.real.SetUp.{SetUp}
-use Rattle.symbol_sync.specs.Real.{opening}
+use Rattle.real_sync.specs.declared.state.SetUp.{SetUp}
+use Rattle.real_sync.specs.Views.{opening}
 use Rattle.train_receiver.specs.Codes.{detectorOf}
 use Rattle.train_receiver.specs.RealTiming.{setUpOf}
 use Rattle.train_receiver.proofs.Laws.Codes.{refused-not-done}

@@ -1,5 +1,5 @@
 -- `train_receiver::whole::receiver_of` meets its contract: each loop's state is the one that its record stands for. Assumes nothing.
-use Rattle.symbol_sync.specs.Complex.{stateOf}
+use Rattle.complex_sync.specs.Views.{stateOf}
 use borrow.Author.Needs.{needs}
 use Rattle.train_receiver.proofs.whole.receiver_of.Statement.{statement}
 use Rattle.train_receiver.proofs.whole.receiver_of.Tie as tie

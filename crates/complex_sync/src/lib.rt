@@ -1,0 +1,17 @@
+// Symbol timing recovery of complex samples, which lie in slices of f32, real part first: one interpolated sample
+// per symbol. From kernels/symbol_sync.rs and fallback/symbol_sync.rs. States go by value, and
+// `symbol_sync` takes one that is lent.
+mod loops;
+mod state;
+
+pub use loops::Ran;
+pub use loops::Recovered;
+pub use loops::recover;
+pub use loops::run;
+pub use loops::symbol_sync;
+pub use state::Hist;
+pub use state::SetUp;
+pub use state::SymbolSyncState;
+pub use state::Track;
+pub use state::reset;
+pub use state::set_up;

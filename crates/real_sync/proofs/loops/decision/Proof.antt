@@ -1,0 +1,27 @@
+-- `real_sync::decision` meets its contract: the definition goes by the detector. Assumes nothing.
+use mathlib.Core.Path.{sym, _∙_}
+use Rattle.timing.specs.Sample.{real}
+use Rattle.timing.specs.Loop.{decision}
+use borrow.Author.Needs.{needs}
+use Rattle.real_sync.proofs.loops.decision.Statement.{statement}
+use Rattle.real_sync.proofs.loops.decision.Tie as tie
+
+enum-told : tie.Need-enum-told
+enum-told c = search needs
+
+enum-told-2 : tie.Need-enum-told-2
+enum-told-2 c = search needs
+
+decide-requires : tie.Need-decide-requires
+decide-requires c κs = search needs
+
+returns : tie.Need-returns
+unfolding decision
+returns c = let a = c .before .before .args in λ j. decision real (sym (c .enum-told .given .1) j) (a .d-prev) (a .y)
+
+returns-2 : tie.Need-returns-2
+unfolding decision
+returns-2 c = let a = c .before .before .before .args in c .decide .ensures ∙ (λ j. decision real (sym (c .before .enum-told2 .given .1) j) (a .d-prev) (a .y))
+
+pub decision-spec : {M : Type 1} → statement M
+decision-spec = tie.close (tie.spec enum-told enum-told-2 decide-requires returns returns-2)

@@ -1,0 +1,25 @@
+-- `real_sync::start` meets its contract: the literal, with the fresh clock in it, is the fresh state. Assumes nothing.
+use mathlib.Core.Path.{sym, ap, subst}
+use mathlib.Core.Bool.{false}
+use lib.Ieee.{Float, ofBits}
+use Rattle.timing.specs.declared.clock.Clock.{Clock}
+use Rattle.timing.specs.Sample.{real}
+use Rattle.timing.specs.Run.{Sync, Given, fresh}
+use Rattle.timing.proofs.Laws.Fresh.{fresh-given}
+use borrow.Author.Needs.{needs}
+use Rattle.real_sync.proofs.state.start.Statement.{statement}
+use Rattle.real_sync.proofs.state.start.Tie as tie
+
+fresh-clock-requires : tie.Need-fresh-clock-requires
+fresh-clock-requires c κs = search needs
+
+returns : tie.Need-returns
+unfolding ofBits
+returns c =
+    let a = c .before .args in
+    let with : Clock → Sync Float = λ k. record { params = a .p; hist = fresh real (a .p) .hist; track = record { clock = k; yPrev = real .zero; dPrev = real .zero; mid = real .zero; midReady = false; started = false } } in
+    let e = ap with (c .fresh-clock .ensures) in
+    (e, subst Given (sym e) (fresh-given real (a .p) (c .before .pre)))
+
+pub start-spec : {M : Type 1} → statement M
+start-spec = tie.close (tie.spec fresh-clock-requires returns)

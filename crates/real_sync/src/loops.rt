@@ -1,0 +1,228 @@
+// The loop over slices that the caller lends, from fallback/symbol_sync.rs. A run refuses nothing.
+use crate::state::Hist;
+use crate::state::SymbolSyncState;
+use crate::state::Track;
+use strobe_clock::advance;
+use strobe_clock::can_strobe;
+use strobe_clock::consumed;
+use strobe_clock::lacks;
+use strobe_clock::mid_left;
+use strobe_clock::mid_position;
+use timing::Params;
+use timing::Ted;
+use values::Progress;
+ghost use mathlib.Core.Path.{_≡_};
+ghost use Prim.Native.Nat.{_+_, _<_, _≤_};
+ghost use lib.ListN.{length, getD};
+ghost use Rattle.values.specs.Buffers.{written};
+ghost use Rattle.timing.specs.Sample.{real};
+ghost use Rattle.timing.specs.Given.{Running, GivenStrobe};
+ghost use Rattle.timing.specs.Loop as loop;
+ghost use Rattle.timing.specs.Run.{histAt, Given, calledReal};
+ghost use Rattle.real_sync.specs.Views.{track, hist, sync, line, outcomeOf, answered};
+
+// ---- Windows
+
+// Sample j of the history followed by the input.
+fn at(h: Hist, input: &[f32], j: usize) -> f32
+    requires { ⌜ j < length (now input) + 3 ⌝ }
+    ensures { λ r. ⌜ r ≡ getD (line h (now (input .entry))) j (real .zero) ⌝ }
+{
+    if j == 0 {
+        return h.a;
+    }
+    if j == 1 {
+        return h.b;
+    }
+    if j == 2 {
+        return h.c;
+    }
+    input[j - 3]
+}
+
+// The window of the position with integer part i: samples i - 1 to i + 2. Past the history it is read
+// straight from the input.
+fn window(h: Hist, input: &[f32], i: usize) -> [f32; 4]
+    requires { ⌜ (1 ≤ i) × (i ≤ length (now input)) ⌝ }
+    ensures { λ r. ⌜ r ≡ loop.windowAt real (line h (now (input .entry))) i ⌝ }
+{
+    if i < 4 {
+        let a = at(h, input, i - 1);
+        let b = at(h, input, i);
+        let c = at(h, input, i + 1);
+        let d = at(h, input, i + 2);
+        [a, b, c, d]
+    } else {
+        let a = input[i - 4];
+        let b = input[i - 3];
+        let c = input[i - 2];
+        let d = input[i - 1];
+        [a, b, c, d]
+    }
+}
+
+// The value at (i, mu).
+fn value_at(h: Hist, input: &[f32], i: usize, mu: f64) -> f32
+    requires { ⌜ (1 ≤ i) × (i ≤ length (now input)) ⌝ }
+    ensures { λ r. ⌜ r ≡ loop.valueAt real (line h (now (input .entry))) i mu ⌝ }
+{
+    let w = window(h, input, i);
+    timing::real::interp(w, numbers::narrow(mu))
+}
+
+// ---- One output place
+
+// The middle is taken, where it is lacking and can be worked out.
+fn take_mid(p: Params, h: Hist, s: Track, input: &[f32]) -> Track
+    requires { ⌜ Running p (s .clock) (loop.lacks p (track s)) (length (now input)) ⌝ }
+    ensures { λ r. ⌜ track r ≡ loop.midTaken real p (line h (now (input .entry))) (track s) ⌝ }
+{
+    let ted = p.ted;
+    if lacks(ted, s.started, s.mid_ready) {
+        let at = mid_position(s.clock);
+        if at.i <= input.len() {
+            let m = value_at(h, input, at.i, at.mu);
+            let mut t = s;
+            t.mid = m;
+            t.mid_ready = true;
+            return t;
+        }
+    }
+    s
+}
+
+// The decision that is kept: Gardner takes none.
+fn decision(ted: Ted, d_prev: f32, y: f32) -> f32
+    ensures { λ r. ⌜ r ≡ loop.decision real ted «d_prev» y ⌝ }
+{
+    match ted {
+        Ted::Gardner => d_prev,
+        Ted::MuellerMuller => timing::real::decide(y),
+    }
+}
+
+// The detector's error at the strobe y with the decision d.
+fn error(ted: Ted, s: Track, y: f32, d: f32) -> f32
+    ensures { λ r. ⌜ r ≡ loop.errorOf real ted (track s) y d ⌝ }
+{
+    match ted {
+        Ted::Gardner => timing::real::gardner(s.y_prev, y, s.mid),
+        Ted::MuellerMuller => timing::real::mm(s.d_prev, y, d, s.y_prev),
+    }
+}
+
+// What the strobe y changes.
+fn strobe(p: Params, s: Track, y: f32) -> Track
+    requires { ⌜ GivenStrobe p (s .clock) ⌝ }
+    ensures { λ r. ⌜ track r ≡ loop.strobed real p (track s) y ⌝ }
+{
+    let ted = p.ted;
+    let d = decision(ted, s.d_prev, y);
+    let clock = advance(p, s.clock, s.started, error(ted, s, y, d));
+    let mid = s.mid;
+    let mid_ready = mid_left(ted, s.mid_ready);
+    Track {
+        clock: clock,
+        y_prev: y,
+        d_prev: d,
+        mid: mid,
+        mid_ready: mid_ready,
+        started: true,
+    }
+}
+
+// ---- A run
+
+// What the loop has come to.
+struct Strobed {
+    track: Track,
+    produced: usize,
+}
+
+// Strobes while an output place is left and the next one can be worked out.
+fn strobes(p: Params, h: Hist, s: Track, input: &[f32], output: &mut [f32]) -> Strobed
+    requires { ⌜ Running p (s .clock) (loop.lacks p (track s)) (length (now input)) ⌝ }
+    ensures last { λ r. ⌜ track (r .track) ≡ loop.runs real p (line h (now (input .entry))) (length (now (output .entry))) (track s) .last ⌝ }
+    ensures produced { λ r. ⌜ r .produced ≡ length (loop.runs real p (line h (now (input .entry))) (length (now (output .entry))) (track s) .values) ⌝ }
+    ensures output { λ _. ⌜ now (output .exit) ≡ written (loop.runs real p (line h (now (input .entry))) (length (now (output .entry))) (track s) .values) (now (output .entry)) ⌝ }
+{
+    let places = output.len();
+    let n = input.len();
+    let ted = p.ted;
+    let mut t = s;
+    let mut produced = 0;
+    while produced < places {
+        t = take_mid(p, h, t, input);
+        let i = t.clock.i;
+        if !can_strobe(lacks(ted, t.started, t.mid_ready), i, n) {
+            break;
+        }
+        let y = value_at(h, input, i, t.clock.mu);
+        t = strobe(p, t, y);
+        output[produced] = y;
+        produced += 1;
+    }
+    Strobed {
+        track: t,
+        produced: produced,
+    }
+}
+
+// The three samples from position k on, which become the history.
+fn hist_at(h: Hist, input: &[f32], k: usize) -> Hist
+    requires { ⌜ k ≤ length (now input) ⌝ }
+    ensures { λ r. ⌜ hist r ≡ histAt real (line h (now (input .entry))) k ⌝ }
+{
+    let a = at(h, input, k);
+    let b = at(h, input, k + 1);
+    let c = at(h, input, k + 2);
+    Hist { a: a, b: b, c: c }
+}
+
+// The counts of a run, and the state after it.
+pub struct Ran {
+    pub progress: Progress,
+    pub state: SymbolSyncState,
+}
+
+// One call: the strobes go to the front of the output.
+pub fn run(s: SymbolSyncState, input: &[f32], output: &mut [f32]) -> Ran
+    requires { ⌜ Given (sync s) ⌝ }
+    ensures outcome { λ r. ⌜ answered r (now (output .exit)) ≡ calledReal (sync s) (now (input .entry)) (now (output .entry)) ⌝ }
+    ensures given { λ r. ⌜ Given (sync (r .state)) ⌝ }
+{
+    let p = s.params;
+    let h = s.hist;
+    let t = s.track;
+    let got = strobes(p, h, t, input, output);
+    let mut u = got.track;
+    let ted = p.ted;
+    let k = consumed(u.clock, lacks(ted, u.started, u.mid_ready), input.len());
+    let kept = hist_at(h, input, k);
+    let i = u.clock.i - k;
+    u.clock.i = i;
+    let progress = Progress {
+        consumed: k,
+        produced: got.produced,
+    };
+    let state = SymbolSyncState {
+        params: p,
+        hist: kept,
+        track: u,
+    };
+    Ran {
+        progress: progress,
+        state: state,
+    }
+}
+
+// The entry over a state that the caller lends, which is brought up to date.
+pub fn symbol_sync(s: &mut SymbolSyncState, input: &[f32], output: &mut [f32]) -> Progress
+    requires { ⌜ Given (sync (now s)) ⌝ }
+    ensures outcome { λ r. ⌜ outcomeOf r (sync (now (s .exit))) (now (output .exit)) ≡ calledReal (sync (now (s .entry))) (now (input .entry)) (now (output .entry)) ⌝ }
+    ensures given { λ _. ⌜ Given (sync (now (s .exit))) ⌝ }
+{
+    let ran = run(*s, input, output);
+    *s = ran.state;
+    ran.progress
+}
