@@ -6,9 +6,15 @@ use Rattle.values.specs.Samples.{silence}
 use Rattle.values.specs.Turn.{turns}
 use Rattle.make_recording.specs.declared.source.Source.{Source}
 
--- the generator's next state
+-- the generator's next state: it is linear, in 32 bits
+abbrev pub multiplier : ℕ
+multiplier = 1664525
+
+abbrev pub increment : ℕ
+increment = 1013904223
+
 abbrev pub stepped : ℕ → ℕ
-stepped s = (1664525 * s + 1013904223) % 2 ^ 32
+stepped s = (multiplier * s + increment) % 2 ^ 32
 
 -- the symbol of a state: its top two bits are the number; number 0 is (1, 1), and each next one is a quarter turn on
 abbrev pub pointOf : ℕ → C32

@@ -6,11 +6,21 @@ ghost use Rattle.make_recording.specs.Source.{stepped, pointOf, started,
 // The generator's state before the first symbol.
 const SEED: u32 = 1;
 
+// The generator is linear: its state times MULTIPLIER, plus INCREMENT, in 32 bits.
+const MULTIPLIER: u64 = 1664525;
+
+const INCREMENT: u64 = 1013904223;
+
+const MODULUS: u64 = 0x1_0000_0000;
+
+// A quarter of the states: the top two bits of a state say in which quarter it lies.
+const QUARTER: u32 = 0x4000_0000;
+
 // The carrier's phase at the first sample, in units of 2^-32 turn: a twelfth of a turn.
-const START_PHASE: u32 = 357913941;
+const START_PHASE: u32 = 0x1555_5555;
 
 // What the phase grows by from sample to sample: 0.0005 of a turn, which is 0.002 of a turn a symbol.
-pub const PHASE_STEP: u32 = 2147484;
+pub const PHASE_STEP: u32 = 0x20_c49c;
 
 // The generator's state, the symbol that is left, the one that comes, and the phase of the next sample.
 pub struct Source {
@@ -24,7 +34,7 @@ pub struct Source {
 fn step(state: u32) -> u32
     ensures { λ r. ⌜ r ≡ stepped state ⌝ }
 {
-    ((1664525 * (state as u64) + 1013904223) % 4294967296) as u32
+    ((MULTIPLIER * (state as u64) + INCREMENT) % MODULUS) as u32
 }
 
 // The symbol of a state. Its top two bits are the number: 0 is (1, 1), and each next one is a quarter
@@ -32,7 +42,7 @@ fn step(state: u32) -> u32
 fn point(state: u32) -> C32
     ensures { λ r. ⌜ r ≡ pointOf state ⌝ }
 {
-    let number = state / 1073741824;
+    let number = state / QUARTER;
     match number {
         0 => C32 { re: 1.0, im: 1.0 },
         1 => C32 { re: -1.0, im: 1.0 },

@@ -9,9 +9,9 @@ ghost use Rattle.make_recording.specs.Wave.{onTheWay, turnedBy, sampleOf
 
 // From symbol to symbol the transition's cosine goes half a turn, an eighth of a turn a sample, in
 // units of 2^-32 turn. The first sample stands 0.3 of a sample behind the last symbol's instant.
-const FIRST: u32 = 161061274;
+const FIRST: u32 = 0x999_999a;
 
-const EIGHTH: u32 = 536870912;
+const EIGHTH: u32 = 0x2000_0000;
 
 // From a to b, where the cosine has come down to c.
 fn on_the_way(a: f32, b: f32, c: f32) -> f32

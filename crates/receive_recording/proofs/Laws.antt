@@ -2,3 +2,4 @@
 pub mod Block
 pub mod Accepted
 pub mod Whole
+pub mod Remark

@@ -7,9 +7,12 @@ use lib.Dec.{T, eqb, leb}
 use lib.ListN.{length, drop, replicate}
 use lib.Ieee.{Float}
 use Rattle.ieee.specs.Notation.{zero₀}
+use Rattle.values.specs.Samples.{samples}
 use Rattle.receiver.specs.declared.record.Receiver.{Receiver}
 use Rattle.receiver.specs.Call.{Outcome, called}
-use Rattle.receive_recording.specs.declared.block.Heard.{Heard}
+use Rattle.recordings.specs.declared.content.Content.{Content}
+use Rattle.recordings.specs.Content.{contentWith}
+use Rattle.receive_recording.specs.declared.block.Called.{Called}
 use Rattle.receive_recording.specs.declared.block.Received.{Received}
 
 -- a call with places for 256 symbols
@@ -19,22 +22,32 @@ places = replicate 512 zero₀
 abbrev pub callOn : Receiver → List Float → Outcome
 callOn r xs = called r xs places places
 
-abbrev pub heardOf : Outcome → Heard
-heardOf o = record { receiver = o .receiver; number = o .number; consumed = o .consumed; produced = o .produced }
+-- its number, counts and receiver, and whether its symbols were written
+abbrev pub calledOf : Outcome → Bool → Called
+calledOf o w = record { number = o .number; consumed = o .consumed; produced = o .produced; receiver = o .receiver; written = w }
+
+-- what a block comes to with its last call
+abbrev pub endedBy : Called → Received
+endedBy z = record { number = z .number; receiver = z .receiver; written = z .written }
 
 -- nothing is produced, or all is consumed
 abbrev pub final : List Float → Outcome → Bool
 final xs o = eqb (o .produced) 0 || leb (length xs / 2) (o .consumed)
 
--- calls with what is left of the block, n at most
+-- calls with what is left of the block, n at most, where all symbols are written
 unfoldable pub received : ℕ → Receiver → List Float → Received
-received zero r xs = record { receiver = r; number = 0 }
-received (suc n) r xs = let o = callOn r xs in cond (final xs o) (record { receiver = o .receiver; number = o .number }) (received n (o .receiver) (drop (2 * o .consumed) xs))
+received zero r xs = record { number = 0; receiver = r; written = true }
+received (suc n) r xs = let o = callOn r xs in cond (final xs o) (endedBy (calledOf o true)) (received n (o .receiver) (drop (2 * o .consumed) xs))
 
 -- ---- a recording, received block by block
 unfoldable pub receivedAll : Receiver → List (List Float) → Receiver
 receivedAll r [] = r
 receivedAll r (b ∷ bs) = receivedAll (received (length b) r b .receiver) bs
+
+-- what its samples are, seen block by block behind those before
+unfoldable pub contentAll : Content → List (List Float) → Content
+contentAll c [] = c
+contentAll c (b ∷ bs) = contentAll (contentWith c (samples b)) bs
 
 -- the blocks one after the other
 unfoldable pub whole : List (List Float) → List Float

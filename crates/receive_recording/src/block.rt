@@ -3,84 +3,97 @@ use crate::report;
 use receiver::Receiver;
 use values::Answer;
 ghost use mathlib.Core.Path.{_≡_};
+ghost use lib.Dec.{T};
 ghost use lib.ListN.{length};
 ghost use Rattle.receiver.specs.Record.{Given};
-ghost use Rattle.receive_recording.specs.Block.{callOn, heardOf, received};
+ghost use Rattle.receive_recording.specs.Block.{callOn, calledOf, endedBy, received};
 
-// What a call answers: the number of its refusal or 0, and its counts; and the receiver after it.
-pub struct Heard {
-    pub receiver: Receiver,
+// How many f32 are lent for the symbols of a call: two for each of 256.
+const PLACES: usize = 512;
+
+// A call: its number, which is 0 where it is done, its counts and the receiver after it; and whether
+// its symbols could be written.
+pub struct Called {
     pub number: u32,
     pub consumed: usize,
     pub produced: usize,
+    pub receiver: Receiver,
+    pub written: bool,
 }
 
-// The receiver after a block, and the number of the refusal that ended it or 0.
+// A block: the number of the refusal that ended it or 0, and the receiver after it; and whether its
+// symbols could be written.
 pub struct Received {
-    pub receiver: Receiver,
     pub number: u32,
+    pub receiver: Receiver,
+    pub written: bool,
 }
 
 // One call, with places for 256 symbols. Those that it produces are written.
-fn call(r: Receiver, input: &[f32]) -> Heard
+fn call(r: Receiver, input: &[f32]) -> Called
     requires { ⌜ Given r ⌝ }
-    ensures outcome { λ z. ⌜ z ≡ heardOf (callOn r (now (input .entry))) ⌝ }
+    ensures outcome { λ z. ⌜ z ≡ calledOf (callOn r (now (input .entry))) (z .written) ⌝ }
     ensures given { λ z. ⌜ Given (z .receiver) ⌝ }
 {
-    let mut strobes = [0.0f32; 512];
-    let mut output = [0.0f32; 512];
+    let mut strobes = [0.0f32; PLACES];
+    let mut output = [0.0f32; PLACES];
     let ran = receiver::run(r, input, &mut strobes, &mut output);
     let after = ran.receiver;
     let answer = ran.answer;
     match answer {
-        Answer::Done(p) => {
-            report::symbols(r, &output, p.produced);
-            Heard {
-                receiver: after,
-                number: 0,
-                consumed: p.consumed,
-                produced: p.produced,
-            }
-        }
-        Answer::Refused(why) => Heard {
+        Answer::Done(p) => Called {
+            number: 0,
+            consumed: p.consumed,
+            produced: p.produced,
             receiver: after,
+            written: report::symbols(r, &output, p.produced),
+        },
+        Answer::Refused(why) => Called {
             number: why.number(),
             consumed: 0,
             produced: 0,
+            receiver: after,
+            written: true,
         },
     }
 }
 
-// Calls with what is left of the block until all of it is consumed or nothing is produced. A proved
-// loop has to end: as many calls are made at most as the block has f32.
+// What a block comes to with its last call.
+fn ended_by(last: Called) -> Received
+    ensures { λ z. ⌜ z ≡ endedBy last ⌝ }
+{
+    let receiver = last.receiver;
+    Received {
+        number: last.number,
+        receiver: receiver,
+        written: last.written,
+    }
+}
+
+// Calls with what is left of the block until all of it is consumed or nothing is produced, or until
+// symbols could not be written. A proved loop has to end: as many calls are made at most as the block
+// has f32.
 pub(crate) fn receive(r: Receiver, input: &[f32]) -> Received
     requires { ⌜ Given r ⌝ }
-    ensures outcome { λ z. ⌜ z ≡ received (length (now (input .entry))) r (now (input .entry)) ⌝ }
+    ensures outcome { λ z. ⌜ (T (z .written) → z ≡ received (length (now (input .entry))) r (now (input .entry))) ⌝ }
     ensures given { λ z. ⌜ Given (z .receiver) ⌝ }
 {
     let mut receiver = r;
     let mut at = 0;
     let mut left = input.len();
     while left > 0 {
-        let heard = call(receiver, &input[at..]);
-        receiver = heard.receiver;
-        if heard.produced == 0 {
-            return Received {
-                receiver: receiver,
-                number: heard.number,
-            };
+        let called = call(receiver, &input[at..]);
+        let whole = (input.len() - at) / 2;
+        if !called.written || called.produced == 0 || called.consumed >= whole {
+            return ended_by(called);
         }
-        if heard.consumed >= (input.len() - at) / 2 {
-            return Received {
-                receiver: receiver,
-                number: heard.number,
-            };
-        }
-        at += 2 * heard.consumed;
+        receiver = called.receiver;
+        at += 2 * called.consumed;
         left -= 1;
     }
     Received {
-        receiver: receiver,
         number: 0,
+        receiver: receiver,
+        written: true,
     }
 }

@@ -1,25 +1,126 @@
 // Receives a recording, which stands on standard input: complex f32 samples, little-endian, real part
 // first. Writes the number of each symbol as a digit, 64 to a line, and at the end how many symbols
-// there are, the pace, and whether the carrier is locked. A refusal is written as its number on error
-// output, and so is an input that ends inside a sample.
+// there are, the pace, and whether the carrier is locked; and a remark if the recording has no samples,
+// or none but silent ones and such as are not finite. What goes wrong is said on error output, and ends
+// the program: arguments, a read or a write that fails, a refusal, an input that ends inside a sample.
 mod block;
+mod input;
+mod output;
 mod report;
 
 use carrier::CostasConstellation;
-use libc::STDIN_FILENO;
 use receiver::Receiver;
 use receiver::SetUp;
+use recordings::Content;
 use timing::Ted;
+ghost use mathlib.Core.Path.{_≡_};
+ghost use mathlib.Core.Bool.{false};
 ghost use Rattle.receiver.specs.Record.{Given};
 
 // A proved loop has to end, and nothing says that the input does. So many blocks are read at most:
 // 2^33 samples, which have fewer symbols than the receiver can count.
-const BLOCKS: u64 = 4194304;
+const BLOCKS: u64 = 0x40_0000;
 
-// How many bytes a sample has.
+// How many bytes a block of 2,048 samples has, how many f32 these are, and how many bytes a sample has.
+const BLOCK: usize = 16384;
+
+const PARTS: usize = 4096;
+
 const SAMPLE: usize = 8;
 
+// How far the recording is received: the receiver, what the samples so far are, and whether more are
+// to be read.
+struct Sofar {
+    receiver: Receiver,
+    content: Content,
+    more: bool,
+}
+
+// Nothing more is to be read.
+fn stopped(s: Sofar) -> Sofar
+    ensures { λ z. ⌜ z ≡ record { receiver = s .receiver; content = s .content; more = false } ⌝ }
+{
+    let receiver = s.receiver;
+    let content = s.content;
+    Sofar {
+        receiver: receiver,
+        content: content,
+        more: false,
+    }
+}
+
+// Writes the summary. It is said if that fails, or if the input ends inside a sample.
+fn conclude(r: Receiver, content: Content, cut: bool) {
+    if !report::summary(r, content) {
+        report::not_written();
+        return;
+    }
+    if cut {
+        report::cut_short();
+    }
+}
+
+// Receives the next block; behind the last one it writes the summary.
+fn advance(s: Sofar) -> Sofar
+    requires { ⌜ Given (s .receiver) ⌝ }
+    ensures { λ z. ⌜ Given (z .receiver) ⌝ }
+{
+    let mut bytes = [0u8; BLOCK];
+    let filled = input::fill(&mut bytes);
+    if filled.failed {
+        report::not_read();
+        return stopped(s);
+    }
+    let n = filled.count;
+    let mut input = [0.0f32; PARTS];
+    let parts = 2 * recordings::read_samples(&bytes[..n], &mut input);
+    let before = s.content;
+    let content = recordings::content_with(before, &input[..parts]);
+    let received = block::receive(s.receiver, &input[..parts]);
+    let receiver = received.receiver;
+    if !received.written {
+        report::not_written();
+        return stopped(s);
+    }
+    if received.number > 0 {
+        report::refused(received.number);
+        return stopped(s);
+    }
+    if n < BLOCK {
+        conclude(receiver, content, n % SAMPLE > 0);
+    }
+    Sofar {
+        receiver: receiver,
+        content: content,
+        more: n == BLOCK,
+    }
+}
+
+// Receives block after block, up to the end of the input.
+fn receive(r: Receiver)
+    requires { ⌜ Given r ⌝ }
+{
+    let mut sofar = Sofar {
+        receiver: r,
+        content: Content::Empty,
+        more: true,
+    };
+    let mut left = BLOCKS;
+    while left > 0 {
+        sofar = advance(sofar);
+        if !sofar.more {
+            return;
+        }
+        left -= 1;
+    }
+    report::too_long();
+}
+
 fn main() {
+    if os::arg_count() > 1 {
+        report::arguments();
+        return;
+    }
     let answer = receiver::set_up(
         CostasConstellation::Qpsk,
         recordings::timing_defaults(Ted::Gardner),
@@ -29,35 +130,4 @@ fn main() {
         SetUp::Ready(r) => receive(r),
         SetUp::Refused(why) => report::refused(why.number()),
     }
-}
-
-// Receives block after block of 2,048 samples, up to the end of the input.
-fn receive(r: Receiver)
-    requires { ⌜ Given r ⌝ }
-{
-    let mut receiver = r;
-    let mut left = BLOCKS;
-    while left > 0 {
-        let mut bytes = [0u8; 16384];
-        let n = io::read_full(STDIN_FILENO, &mut bytes);
-        if n == 0 {
-            report::summary(receiver);
-            return;
-        }
-        let mut input = [0.0f32; 4096];
-        let parts = 2 * recordings::read_samples(&bytes[..n], &mut input);
-        let received = block::receive(receiver, &input[..parts]);
-        receiver = received.receiver;
-        if received.number > 0 {
-            report::refused(received.number);
-            return;
-        }
-        if n % SAMPLE > 0 {
-            report::summary(receiver);
-            report::cut_short();
-            return;
-        }
-        left -= 1;
-    }
-    report::too_long();
 }

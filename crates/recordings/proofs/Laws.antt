@@ -4,3 +4,4 @@ pub mod Floats
 pub mod Digits
 pub mod Lines
 pub mod Defaults
+pub mod Content

@@ -3,3 +3,4 @@ pub mod Samples
 pub mod Text
 pub mod Thousandths
 pub mod Defaults
+pub mod Content

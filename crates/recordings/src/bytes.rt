@@ -18,7 +18,7 @@ pub fn little_endian(bytes: &[u8]) -> u64
     while i > 0 {
         i -= 1;
         let b = bytes[i] as u64;
-        value = b + 256 * value;
+        value = b + 0x100 * value;
     }
     value
 }
@@ -39,10 +39,10 @@ pub(crate) fn store_f32(bytes: &mut [u8], k: usize, x: f32)
     ensures { λ _. ⌜ now (bytes .exit) ≡ sets (now (bytes .entry)) (4 * k) (bytesOf 4 (toBits binary32 x)) ⌝ }
 {
     let bits = patterns::f32_bits(x);
-    bytes[4 * k] = (bits % 256) as u8;
-    bytes[4 * k + 1] = (bits / 256 % 256) as u8;
-    bytes[4 * k + 2] = (bits / 65536 % 256) as u8;
-    bytes[4 * k + 3] = (bits / 16777216) as u8;
+    bytes[4 * k] = (bits % 0x100) as u8;
+    bytes[4 * k + 1] = (bits / 0x100 % 0x100) as u8;
+    bytes[4 * k + 2] = (bits / 0x1_0000 % 0x100) as u8;
+    bytes[4 * k + 3] = (bits / 0x100_0000) as u8;
 }
 
 // Stores b at place k; past the last one nothing is stored.

@@ -1,7 +1,9 @@
 // Recordings as bytes and symbols as text: complex f32 samples from little-endian bytes and back, the
-// digits of symbols, laid out in lines, and a number in thousandths; and what a receiver of the sample
-// recording is set up with. Nothing here requires anything.
+// digits of symbols, laid out in lines, and a number in thousandths; whether there is something to
+// receive in a recording; and what a receiver of the sample recording is set up with. Nothing here
+// requires anything.
 mod bytes;
+mod content;
 mod decimals;
 mod defaults;
 mod digits;
@@ -9,6 +11,8 @@ mod lines;
 mod samples;
 
 pub use bytes::little_endian;
+pub use content::Content;
+pub use content::content_with;
 pub use decimals::thousandths;
 pub use defaults::carrier_defaults;
 pub use defaults::timing_defaults;

@@ -8,7 +8,7 @@ use lib.ListN.{length, length-drop, drop}
 use lib.Ieee.{Float}
 use Rattle.receiver.specs.declared.record.Receiver.{Receiver}
 use Rattle.receiver.proofs.Laws.Refused.{all-even, called-number}
-use Rattle.receive_recording.specs.Block.{places, callOn, final, received}
+use Rattle.receive_recording.specs.Block.{places, callOn, calledOf, endedBy, final, received}
 
 pub call-accepted : (r : Receiver) (xs : List Float) → length xs % 2 ≡ 0 → callOn r xs .number ≡ 0
 call-accepted r xs even = called-number r xs places places ∙ ap (λ (b : Bool). cond b 8 0) (all-even xs places places (λ e. omega arith) (λ e. omega arith) (λ e. omega arith))
@@ -20,6 +20,6 @@ block-accepted (suc n) r xs even =
     let o = callOn r xs in
     by (final xs o) (block-accepted n (o .receiver) (drop (2 * o .consumed) xs) (rw length-drop (omega arith)))
   where
-    by : (b : Bool) → received n (callOn r xs .receiver) (drop (2 * callOn r xs .consumed) xs) .number ≡ 0 → cond b (record { receiver = callOn r xs .receiver; number = callOn r xs .number }) (received n (callOn r xs .receiver) (drop (2 * callOn r xs .consumed) xs)) .number ≡ 0
+    by : (b : Bool) → received n (callOn r xs .receiver) (drop (2 * callOn r xs .consumed) xs) .number ≡ 0 → cond b (endedBy (calledOf (callOn r xs) true)) (received n (callOn r xs .receiver) (drop (2 * callOn r xs .consumed) xs)) .number ≡ 0
     by true e = call-accepted r xs even
     by false e = e

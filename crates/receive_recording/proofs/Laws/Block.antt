@@ -1,10 +1,10 @@
 -- The loop over a block: what the definition makes of the rest of the block, from here, is what it makes of the whole. Assumes nothing.
-use mathlib.Core.Path.{_≡_, refl, sym, ap, _∙_}
-use mathlib.Core.Bool.{Bool, _||_, cond}
+use mathlib.Core.Path.{_≡_, refl, sym, ap, _∙_, subst}
+use mathlib.Core.Bool.{Bool, true, false, not, _||_, cond}
 use mathlib.Core.List.{List}
 use Prim.Native.Nat.{ℕ, suc, _+_, _-_, _*_, _/_, _≤_, _<_}
 use native.Mathlib.Omega.{arith}
-use lib.Dec.{eqb, leb}
+use lib.Dec.{T, eqb, leb}
 use lib.ListN.{length, length-drop, take, drop}
 use lib.Seq.{take-all, drop-drop}
 use lib.Ieee.{Float}
@@ -12,13 +12,23 @@ use borrow.Author.Tests.{eq-eqb, ne-eqb, le-leb, lt-leb}
 use Rattle.receiver.specs.declared.record.Receiver.{Receiver}
 use Rattle.receiver.specs.Record.{Given}
 use Rattle.receiver.specs.Call.{Outcome}
-use Rattle.receive_recording.specs.declared.block.Heard.{Heard}
+use Rattle.receive_recording.specs.declared.block.Called.{Called}
 use Rattle.receive_recording.specs.declared.block.Received.{Received}
-use Rattle.receive_recording.specs.Block.{callOn, heardOf, final, received}
+use Rattle.receive_recording.specs.Block.{callOn, calledOf, endedBy, final, received}
 
--- what a call leaves, if it is the last
-abbrev left-by : Heard → Received
-left-by h = record { receiver = h .receiver; number = h .number }
+-- ---- what the test of the loop says of the symbols
+-- they were written
+is-written : (b : Bool) → not b ≡ false → b ≡ true
+is-written true e = refl
+is-written false e = absurd (subst T e tt)
+
+-- they were not
+pub unwritten : (h : Called) {z : Received} → z ≡ endedBy h → not (h .written) ≡ true → T (z .written) → ⊥
+unwritten h e off on = go (h .written) off (subst T (ap (λ (q : Received). q .written) e) on)
+  where
+    go : (b : Bool) → not b ≡ true → T b → ⊥
+    go true e on = subst T (sym e) tt
+    go false e on = on
 
 -- ---- the invariant: the block is received up to place `at`, and `left` calls may follow
 pub record Underway (xs : List Float) (r₀ r : Receiver) (at left : ℕ) : Type 0 where
@@ -31,46 +41,46 @@ begins xs g = record { within = omega arith; given = g; shows = refl }
 
 module _ {xs : List Float} {r₀ r : Receiver} {at left : ℕ} (u : Underway xs r₀ r at left) where
   -- no call may follow
-  pub ends-full : left ≤ 0 → record { receiver = r; number = 0 } ≡ received (length xs) r₀ xs
+  pub ends-full : left ≤ 0 → record { number = 0; receiver = r; written = true } ≡ received (length xs) r₀ xs
   unfolding received
   ends-full none = let e : left ≡ 0 = omega arith in ap (λ (n : ℕ). received n r (drop at xs)) (sym e) ∙ u .shows
 
   -- ---- a call with what is left, as the code lends it
-  module _ (more : 0 < left) {h : Heard} (e : h ≡ heardOf (callOn r (take (length xs - at) (drop at xs)))) where
+  module _ (more : 0 < left) {h : Called} (e : h ≡ calledOf (callOn r (take (length xs - at) (drop at xs))) (h .written)) (put : not (h .written) ≡ false) where
     o : Outcome
     o = callOn r (drop at xs)
 
-    heard : h ≡ heardOf o
+    same : h ≡ calledOf o true
     unfolding o
-    heard = e ∙ ap (λ (l : List Float). heardOf (callOn r l)) (take-all (length xs - at) (drop at xs) (rw length-drop (omega arith)))
+    same = e ∙ (λ j. calledOf (callOn r (take-all (length xs - at) (drop at xs) (rw length-drop (omega arith)) j)) (is-written (h .written) put j))
 
-    turn : received left r (drop at xs) ≡ cond (final (drop at xs) o) (left-by (heardOf o)) (received (left - 1) (o .receiver) (drop (2 * o .consumed) (drop at xs)))
+    turn : received left r (drop at xs) ≡ cond (final (drop at xs) o) (endedBy (calledOf o true)) (received (left - 1) (o .receiver) (drop (2 * o .consumed) (drop at xs)))
     unfolding received o
     turn = let n : left ≡ suc (left - 1) = omega arith in ap (λ (n : ℕ). received n r (drop at xs)) n
 
-    by : {b : Bool} → final (drop at xs) o ≡ b → cond b (left-by (heardOf o)) (received (left - 1) (o .receiver) (drop (2 * o .consumed) (drop at xs))) ≡ received (length xs) r₀ xs
-    by {b} t = ap (λ (c : Bool). cond c (left-by (heardOf o)) (received (left - 1) (o .receiver) (drop (2 * o .consumed) (drop at xs)))) (sym t) ∙ sym turn ∙ u .shows
+    by : {b : Bool} → final (drop at xs) o ≡ b → cond b (endedBy (calledOf o true)) (received (left - 1) (o .receiver) (drop (2 * o .consumed) (drop at xs))) ≡ received (length xs) r₀ xs
+    by {b} t = ap (λ (c : Bool). cond c (endedBy (calledOf o true)) (received (left - 1) (o .receiver) (drop (2 * o .consumed) (drop at xs)))) (sym t) ∙ sym turn ∙ u .shows
 
     half : (length xs - at) / 2 ≡ length (drop at xs) / 2
     half = ap (λ (n : ℕ). n / 2) (sym (length-drop at xs))
 
     produced : h .produced ≡ o .produced
-    produced = ap (λ (z : Heard). z .produced) heard
+    produced = ap (λ (z : Called). z .produced) same
 
     consumed : h .consumed ≡ o .consumed
-    consumed = ap (λ (z : Heard). z .consumed) heard
+    consumed = ap (λ (z : Called). z .consumed) same
 
     -- nothing is produced
-    pub ends-silent : h .produced ≡ 0 → left-by h ≡ received (length xs) r₀ xs
-    ends-silent z = ap left-by heard ∙ by (ap (λ (b : Bool). b || leb (length (drop at xs) / 2) (o .consumed)) (eq-eqb (o .produced) 0 (sym produced ∙ z)))
+    pub ends-silent : h .produced ≡ 0 → endedBy h ≡ received (length xs) r₀ xs
+    ends-silent z = ap endedBy same ∙ by (ap (λ (b : Bool). b || leb (length (drop at xs) / 2) (o .consumed)) (eq-eqb (o .produced) 0 (sym produced ∙ z)))
 
     module _ (some : h .produced ≡ 0 → ⊥) where
       by-consumed : {b : Bool} → leb (length (drop at xs) / 2) (o .consumed) ≡ b → final (drop at xs) o ≡ b
       by-consumed t = (λ j. ne-eqb (o .produced) 0 (λ z. some (produced ∙ z)) j || t j)
 
       -- all is consumed
-      pub ends-whole : (length xs - at) / 2 ≤ h .consumed → left-by h ≡ received (length xs) r₀ xs
-      ends-whole z = ap left-by heard ∙ by (by-consumed (le-leb (length (drop at xs) / 2) (o .consumed) (let a = half in let b = consumed in omega arith)))
+      pub ends-whole : (length xs - at) / 2 ≤ h .consumed → endedBy h ≡ received (length xs) r₀ xs
+      ends-whole z = ap endedBy same ∙ by (by-consumed (le-leb (length (drop at xs) / 2) (o .consumed) (let a = half in let b = consumed in omega arith)))
 
       -- the next call takes what is left
       pub goes-on : h .consumed < (length xs - at) / 2 → Given (h .receiver) → Underway xs r₀ (h .receiver) (at + 2 * h .consumed) (left - 1)
@@ -79,7 +89,7 @@ module _ {xs : List Float} {r₀ r : Receiver} {at left : ℕ} (u : Underway xs 
             within = let a = u .within in omega arith;
             given = g;
             shows =
-                (λ j. received (left - 1) (heard j .receiver) (drop (at + 2 * heard j .consumed) xs))
+                (λ j. received (left - 1) (same j .receiver) (drop (at + 2 * same j .consumed) xs))
                 ∙ ap (received (left - 1) (o .receiver)) (sym (drop-drop (2 * o .consumed) at xs))
                 ∙ by (by-consumed (lt-leb (length (drop at xs) / 2) (o .consumed) (let a = half in let b = consumed in omega arith)));
           }

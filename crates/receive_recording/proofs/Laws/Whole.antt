@@ -19,7 +19,7 @@ use Rattle.receiver.proofs.Laws.Sparing.{called-sparing}
 use Rattle.blocks.specs.Receiver.{Waiting, start, waitsAfter, Heard, recorded, heard, waits, again, APlace}
 use Rattle.blocks.proofs.Laws.Recording.{cut-never-shows, heard-receiver}
 use Rattle.blocks.proofs.Laws.Taken.{once, ahead, nearer, left-even, idle, again-takes, waits-given, waits-append, recorded-append, again-records}
-use Rattle.receive_recording.specs.Block.{places, callOn, final, received, receivedAll, whole, Even}
+use Rattle.receive_recording.specs.Block.{places, callOn, calledOf, endedBy, final, received, receivedAll, whole, Even}
 use Rattle.receive_recording.proofs.Laws.Accepted.{call-accepted}
 
 -- places for 256 symbols
@@ -68,7 +68,7 @@ block-again (suc n) (suc m) w given even near fits =
   where
     go : (b : Bool) → let o = callOn (w .receiver) (w .rest) in let v = waitsAfter w (once places places lent) in final (w .rest) o ≡ b → (v .rest ≡ []) ⊎ (ahead places places lent v < ahead places places lent w)
         → (ahead places places lent v < n → n ≤ m → received n (v .receiver) (v .rest) .receiver ≡ waits v (again m places places) .receiver)
-        → cond b (record { receiver = o .receiver; number = o .number }) (received n (o .receiver) (drop (2 * o .consumed) (w .rest))) .receiver ≡ waits v (again m places places) .receiver
+        → cond b (endedBy (calledOf o true)) (received n (o .receiver) (drop (2 * o .consumed) (w .rest))) .receiver ≡ waits v (again m places places) .receiver
     go true h near others =
         let o = callOn (w .receiver) (w .rest) in
         let done = same-call w given even ∙ (λ j. record { receiver = o .receiver; rest = final-takes w given even h j }) in

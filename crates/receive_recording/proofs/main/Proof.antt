@@ -4,6 +4,15 @@ use Rattle.receiver.specs.Record.{SetUpGiven}
 use Rattle.receive_recording.proofs.main.Statement.{statement}
 use Rattle.receive_recording.proofs.main.Tie as tie
 
+arg-count-requires : tie.Need-arg-count-requires
+arg-count-requires c κs = tt
+
+arguments-requires : tie.Need-arguments-requires
+arguments-requires c κs = tt
+
+returns : tie.Need-returns
+returns c = tt
+
 timing-defaults-requires : tie.Need-timing-defaults-requires
 timing-defaults-requires c κs = tt
 
@@ -28,16 +37,19 @@ number-requires c κs = tt
 refused-requires : tie.Need-refused-requires
 refused-requires c κs = tt
 
-returns : tie.Need-returns
-returns c = tt
-
 returns-2 : tie.Need-returns-2
 returns-2 c = tt
+
+returns-3 : tie.Need-returns-3
+returns-3 c = tt
 
 pub main-spec : {M : Type 1} → statement M
 main-spec =
     tie.close
     (tie.spec
+    arg-count-requires
+    arguments-requires
+    returns
     timing-defaults-requires
     carrier-defaults-requires
     set-up-requires
@@ -46,5 +58,5 @@ main-spec =
     enum-known-answer-2
     number-requires
     refused-requires
-    returns
-    returns-2)
+    returns-2
+    returns-3)

@@ -1,10 +1,11 @@
 -- `receive_recording::block::call` meets its contract: by what the run answered. Assumes nothing.
 use mathlib.Core.Path.{sym, ap, _∙_}
+use mathlib.Core.Bool.{true}
 use mathlib.Core.List.{[]}
 use lib.Ieee.{ofBits}
 use Rattle.values.specs.declared.progress.Answer.{Answer}
-use Rattle.receiver.specs.Call.{outcomeOf}
-use Rattle.receive_recording.specs.Block.{heardOf}
+use Rattle.receiver.specs.Call.{Outcome, outcomeOf}
+use Rattle.receive_recording.specs.Block.{calledOf}
 use borrow.Author.Needs.{needs}
 use Rattle.receive_recording.proofs.block.call.Statement.{statement}
 use Rattle.receive_recording.proofs.block.call.Tie as tie
@@ -37,15 +38,16 @@ returns : tie.Need-returns
 unfolding ofBits
 returns c =
     let run = c .before .before .before .before .before .before .before .before .run in
-    (ap (λ (a : Answer). heardOf (outcomeOf a (run .result .receiver) [] [])) (sym (c .before .before .before .answer .given .1)) ∙ ap heardOf (run .ensures .0), run .ensures .1)
+    let put = c .symbols .result in
+    (ap (λ (a : Answer). calledOf (outcomeOf a (run .result .receiver) [] []) put) (sym (c .before .before .before .answer .given .1)) ∙ ap (λ (o : Outcome). calledOf o put) (run .ensures .0), run .ensures .1)
 
 returns-2 : tie.Need-returns-2
 unfolding ofBits
 returns-2 c =
     let run = c .before .before .before .before .before .before .before .run in (
-      (λ j. record { receiver = run .result .receiver; number = c .number .ensures j; consumed = 0; produced = 0 })
-          ∙ ap (λ (a : Answer). heardOf (outcomeOf a (run .result .receiver) [] [])) (sym (c .before .before .answer2 .given .1))
-          ∙ ap heardOf (run .ensures .0),
+      (λ j. record { number = c .number .ensures j; consumed = 0; produced = 0; receiver = run .result .receiver; written = true })
+          ∙ ap (λ (a : Answer). calledOf (outcomeOf a (run .result .receiver) [] []) true) (sym (c .before .before .answer2 .given .1))
+          ∙ ap (λ (o : Outcome). calledOf o true) (run .ensures .0),
       run .ensures .1,
     )
 

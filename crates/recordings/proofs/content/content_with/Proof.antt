@@ -1,0 +1,55 @@
+-- `recordings::content_with` meets its contract. The loop's invariant: what the definition makes of the samples from here is what it makes of all. Assumes nothing.
+use mathlib.Core.Path.{_≡_, refl}
+use Prim.Native.Nat.{_/_, _-_, _≤_}
+use native.Mathlib.Omega.{arith}
+use lib.ListN.{length, drop}
+use borrow.Author.Needs.{needs}
+use Rattle.values.specs.Samples.{samples}
+use Rattle.recordings.specs.Content.{contentWith}
+use Rattle.recordings.proofs.Laws.Content.{one-more, all-seen}
+use Rattle.recordings.proofs.content.content_with.Statement.{statement}
+use Rattle.recordings.proofs.content.content_with.Tie as tie
+
+abbrev Inv-loop : tie.InvT-loop
+Inv-loop input content₀ k₀ content k = (k ≤ length input / 2) × (contentWith content (drop k (samples input)) ≡ contentWith content₀ (samples input))
+
+abbrev μ-loop : tie.MeasureT-loop
+μ-loop input content₀ k₀ content k = length input / 2 - k
+
+loop-holds : tie.Need-loop-holds Inv-loop μ-loop
+loop-holds c = (omega arith, refl)
+
+sample-at-requires : tie.Need-sample-at-requires Inv-loop μ-loop
+sample-at-requires c κs = search needs
+
+see-requires : tie.Need-see-requires Inv-loop μ-loop
+see-requires c κs = search needs
+
+add-k : tie.Need-add-k Inv-loop μ-loop
+add-k c = omega arith
+
+loop-less : tie.Need-loop-less Inv-loop μ-loop
+loop-less c = omega arith
+
+loop-again : tie.Need-loop-again Inv-loop μ-loop
+loop-again c =
+    let t = c .before .before .before .loop in
+    let input = c .before .before .before .before .before .args .input .now in
+    (omega arith, one-more input (t .k) (c .before .before .loop-test .taken) (c .before .sample-at .ensures) (t .content) (c .see .ensures) (t .inv .1))
+
+returns : tie.Need-returns Inv-loop μ-loop
+returns c = let input = c .before .before .before .args .input .now in all-seen input (c .before .loop .k) (c .loop-test .left) (c .before .loop .inv .1)
+
+pub content-with-spec : {M : Type 1} → statement M
+content-with-spec =
+    tie.close
+    (tie.spec
+    Inv-loop
+    μ-loop
+    loop-holds
+    sample-at-requires
+    see-requires
+    add-k
+    loop-less
+    loop-again
+    returns)
