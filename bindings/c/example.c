@@ -94,12 +94,13 @@ int main(void)
     slow.sps = 1.5;
     trr_receiver_set_up_answer refused = trr_receiver_set_up(TRR_QPSK, slow, carrier);
     if (refused.number != TRR_DONE) {
-        printf("1.5 samples per symbol: refused with number %" PRIu32 "\n", refused.number);
+        printf("1.5 samples per symbol: refused with number %" PRIu32 ", %s\n",
+               refused.number, trr_number_text(refused.number));
     }
 
     trr_receiver_set_up_answer answer = trr_receiver_set_up(TRR_QPSK, timing, carrier);
     if (answer.number != TRR_DONE) {
-        fprintf(stderr, "the set-up is refused with number %" PRIu32 "\n", answer.number);
+        fprintf(stderr, "the set-up is refused: %s\n", trr_number_text(answer.number));
         return 1;
     }
     trr_receiver receiver = answer.receiver;
@@ -107,7 +108,7 @@ int main(void)
     make_signal(samples);
     uint32_t number = receive(&receiver, samples, SAMPLES);
     if (number != TRR_DONE) {
-        fprintf(stderr, "a call is refused with number %" PRIu32 "\n", number);
+        fprintf(stderr, "a call is refused: %s\n", trr_number_text(number));
         return 1;
     }
     trr_receiver_readings_answer readings = trr_receiver_readings(receiver);

@@ -10,6 +10,16 @@
  * - Records. "A state or record is one that a set-up, reset, setter or run has given; a contract may
  *   require this and nothing else." A refused set-up has given none. The fields may be read. Nobody
  *   but the library may write them. A record may be copied; the copy is a record too.
+ * - Padding. Some records have bytes between their fields. They are no part of the record, and two
+ *   equal records may differ in them. Compare records field by field, never with memcmp.
+ * - Refused set-ups. The answer's record then holds zeros and must not be used. What a call does with
+ *   it is not settled. Today every call with it ends, and a run answers as if it were done.
+ *   trr_real_run reads a float that stands 16 bytes in front of its input, which may end the program.
+ *   The other runs keep to their buffers. Timing fills the output with values that mean nothing, and
+ *   in later runs it consumes everything and produces nothing. The carrier passes its input on as it is.
+ * - Results. A reset or a setter changes nothing in place: it answers the new record. A run that is
+ *   refused says so in its answer alone. So every function is marked TRR_MUST_USE, and a compiler
+ *   that knows such a mark warns where an answer is dropped.
  * - Buffers. A buffer is a pointer to f32 (float) and a count of f32. "A complex sample is two f32, real
  *   part first", so a complex buffer of n samples has the count 2 * n. The answers `consumed` and
  *   `produced` count samples.
@@ -22,6 +32,9 @@
  *   Any other code reads as the last one of its enum. The library writes none but the named codes.
  * - Threads. The library keeps nothing between calls: the record holds the whole state. Two threads must
  *   not use one record at the same time if one of the calls writes it.
+ * - Stack. trr_receiver_receive and trr_carrier_run take about 17 KB of stack (17,416 bytes measured),
+ *   since the cosine table is stored there; any other function takes less than 1 KB. How long the
+ *   buffers are does not matter. Nothing is taken from the heap. bindings/c/stack.c measures it.
  * - Floating point. A call needs the rounding mode and the handling of subnormal numbers that a C program
  *   starts with. Do not link with -ffast-math: it changes the latter.
  */
@@ -31,6 +44,17 @@
 #include <stdbool.h>
 #include <stddef.h>
 #include <stdint.h>
+
+/** The mark of a function whose answer must not be dropped. */
+#if defined(__cplusplus) && __cplusplus >= 201703L
+#define TRR_MUST_USE [[nodiscard]]
+#elif !defined(__cplusplus) && defined(__STDC_VERSION__) && __STDC_VERSION__ >= 202311L
+#define TRR_MUST_USE [[nodiscard]]
+#elif defined(__GNUC__)
+#define TRR_MUST_USE __attribute__((warn_unused_result))
+#else
+#define TRR_MUST_USE
+#endif
 
 #ifdef __cplusplus
 extern "C" {
@@ -75,6 +99,36 @@ enum trr_number {
     /** "a complex buffer has an odd count of f32". */
     TRR_ODD = 8
 };
+
+/** What a number says, in English: the word of its refusal and what is wrong. The text of 0 is "done". */
+TRR_MUST_USE static inline const char *trr_number_text(uint32_t number)
+{
+    switch (number) {
+    case TRR_DONE:
+        return "done";
+    case TRR_PACE:
+        return "pace: the samples per symbol are not a finite number from 2 to 1,000,000";
+    case TRR_WIDTH:
+        return "width: the loop bandwidth is not a finite number from 0.0001 to 0.1 (timing) or 0.2 "
+               "(carrier)";
+    case TRR_DAMPING:
+        return "damping: the damping is not a finite number from 0.1 to 4";
+    case TRR_PULL:
+        return "pull: the largest deviation (timing) is not a finite number from 0 to 0.05, or the "
+               "largest offset (carrier) none from 0 to 0.25 cycles per symbol";
+    case TRR_SLOPE:
+        return "slope: the detector gain is not a finite number above 0";
+    case TRR_GAINS:
+        return "gains: a timing gain that follows from these values is not finite";
+    case TRR_UNEVEN:
+        return "uneven: the carrier's input and output, or the receiver's strobes and output, are not "
+               "equally long";
+    case TRR_ODD:
+        return "odd: the count of f32 of a complex buffer is odd";
+    default:
+        return "not a number of this library";
+    }
+}
 
 /* ---- Samples and counts */
 
@@ -208,7 +262,8 @@ typedef struct trr_complex_timing {
 typedef struct trr_real_set_up_answer {
     /** One of enum trr_number. */
     uint32_t number;
-    /** The state where the number is 0. Otherwise it is no state, and all its fields are 0. */
+    /** The state where the number is 0. Otherwise it is no state: all its fields are 0, and it must not
+     *  be used. */
     trr_real_timing state;
 } trr_real_set_up_answer;
 
@@ -216,7 +271,8 @@ typedef struct trr_real_set_up_answer {
 typedef struct trr_complex_set_up_answer {
     /** One of enum trr_number. */
     uint32_t number;
-    /** The state where the number is 0. Otherwise it is no state, and all its fields are 0. */
+    /** The state where the number is 0. Otherwise it is no state: all its fields are 0, and it must not
+     *  be used. */
     trr_complex_timing state;
 } trr_complex_set_up_answer;
 
@@ -234,12 +290,15 @@ typedef struct trr_timing_readings_answer {
 /* ---- Timing of real samples */
 
 /** Sets up a timing loop over real samples. Numbers: 0, and 1 to 6. */
+TRR_MUST_USE
 trr_real_set_up_answer trr_real_set_up(trr_timing_values v);
 
 /** Answers the state as it was just after its set-up. */
+TRR_MUST_USE
 trr_real_timing trr_real_reset(trr_real_timing x);
 
 /** Answers what the state tells about itself. */
+TRR_MUST_USE
 trr_timing_readings_answer trr_real_readings(trr_real_timing x);
 
 /**
@@ -250,6 +309,7 @@ trr_timing_readings_answer trr_real_readings(trr_real_timing x);
  * all input is consumed. Output places behind the last strobe stay as found. What was not consumed is
  * to be handed again, in front of the next samples.
  */
+TRR_MUST_USE
 trr_progress trr_real_run(trr_real_timing *x,
                           const float *input, size_t input_count,
                           float *output, size_t output_count);
@@ -257,12 +317,15 @@ trr_progress trr_real_run(trr_real_timing *x,
 /* ---- Timing of complex samples */
 
 /** Sets up a timing loop over complex samples. Numbers: 0, and 1 to 6. */
+TRR_MUST_USE
 trr_complex_set_up_answer trr_complex_set_up(trr_timing_values v);
 
 /** Answers the state as it was just after its set-up. */
+TRR_MUST_USE
 trr_complex_timing trr_complex_reset(trr_complex_timing x);
 
 /** Answers what the state tells about itself. */
+TRR_MUST_USE
 trr_timing_readings_answer trr_complex_readings(trr_complex_timing x);
 
 /**
@@ -274,6 +337,7 @@ trr_timing_readings_answer trr_complex_readings(trr_complex_timing x);
  * all input is consumed. Output places behind the last strobe stay as found. What was not consumed is
  * to be handed again, in front of the next samples.
  */
+TRR_MUST_USE
 trr_counts trr_complex_run(trr_complex_timing *x,
                            const float *input, size_t input_count,
                            float *output, size_t output_count);
@@ -337,7 +401,8 @@ typedef struct trr_carrier {
 typedef struct trr_carrier_set_up_answer {
     /** One of enum trr_number. */
     uint32_t number;
-    /** The state where the number is 0. Otherwise it is no state, and all its fields are 0. */
+    /** The state where the number is 0. Otherwise it is no state: all its fields are 0, and it must not
+     *  be used. */
     trr_carrier state;
 } trr_carrier_set_up_answer;
 
@@ -360,19 +425,24 @@ typedef struct trr_carrier_readings_answer {
 /* ---- Carrier */
 
 /** Sets up a carrier loop. Numbers: 0, 2, 3 and 4. */
+TRR_MUST_USE
 trr_carrier_set_up_answer trr_carrier_set_up(uint32_t constellation, trr_carrier_values v);
 
 /** Answers the state as it was just after its set-up. */
+TRR_MUST_USE
 trr_carrier trr_carrier_reset(trr_carrier x);
 
 /** Answers the state with this phase: "32 bits are one turn". The rest stays. */
+TRR_MUST_USE
 trr_carrier trr_carrier_set_phase(trr_carrier x, uint32_t phase);
 
 /** Answers the state with this frequency, in cycles per symbol. The rest stays. "a frequency set is
  *  narrowed, flushed, limited, NaN becoming 0". */
+TRR_MUST_USE
 trr_carrier trr_carrier_set_frequency(trr_carrier x, double freq);
 
 /** Answers what the state tells about itself. */
+TRR_MUST_USE
 trr_carrier_readings_answer trr_carrier_readings(trr_carrier x);
 
 /**
@@ -380,6 +450,7 @@ trr_carrier_readings_answer trr_carrier_readings(trr_carrier x);
  * each of them. The record is brought up to date. Numbers: 0, 8 where a count is odd, 7 where the counts
  * differ. A refused run leaves the record and the output as found.
  */
+TRR_MUST_USE
 uint32_t trr_carrier_run(trr_carrier *x,
                          const float *input, size_t input_count,
                          float *output, size_t output_count);
@@ -399,7 +470,8 @@ typedef struct trr_receiver {
 typedef struct trr_receiver_set_up_answer {
     /** One of enum trr_number. */
     uint32_t number;
-    /** The receiver where the number is 0. Otherwise it is no receiver, and all its fields are 0. */
+    /** The receiver where the number is 0. Otherwise it is no receiver: all its fields are 0, and it
+     *  must not be used. */
     trr_receiver receiver;
 } trr_receiver_set_up_answer;
 
@@ -415,20 +487,25 @@ typedef struct trr_receiver_readings_answer {
 
 /** Sets up a receiver. Numbers: 0, and 1 to 6. "Timing is set up first, all its checks before any of the
  *  carrier's." */
+TRR_MUST_USE
 trr_receiver_set_up_answer trr_receiver_set_up(uint32_t constellation,
                                                trr_timing_values t, trr_carrier_values c);
 
 /** The same without a constellation. "Set up without a constellation it takes BPSK". */
+TRR_MUST_USE
 trr_receiver_set_up_answer trr_receiver_set_up_unnamed(trr_timing_values t, trr_carrier_values c);
 
 /** Answers the receiver as it was just after its set-up. "A reset resets both loops and clears the
  *  count." */
+TRR_MUST_USE
 trr_receiver trr_receiver_reset(trr_receiver x);
 
 /** Answers the receiver with this phase of the carrier: "32 bits are one turn". The rest stays. */
+TRR_MUST_USE
 trr_receiver trr_receiver_set_phase(trr_receiver x, uint32_t phase);
 
 /** Answers what the receiver tells about itself. */
+TRR_MUST_USE
 trr_receiver_readings_answer trr_receiver_readings(trr_receiver x);
 
 /**
@@ -442,6 +519,7 @@ trr_receiver_readings_answer trr_receiver_readings(trr_receiver x);
  * all input is consumed. Places behind the last sample produced stay as found, in both buffers. What was
  * not consumed is to be handed again, in front of the next samples.
  */
+TRR_MUST_USE
 trr_counts trr_receiver_receive(trr_receiver *x,
                                 const float *input, size_t input_count,
                                 float *strobes, size_t strobes_count,
@@ -452,6 +530,7 @@ trr_counts trr_receiver_receive(trr_receiver *x,
  * 8-PSK: the octant 0 to 7 of `octant`; QPSK: half of that octant, rounded down. Silence reads as 0."
  * Octant k goes from k eighths of a turn up to but not k + 1 eighths, so the QPSK number is the quadrant.
  */
+TRR_MUST_USE
 size_t trr_symbol_number(uint32_t constellation, float re, float im);
 
 /* ---- Layout, as the library has it on x86-64 */

@@ -43,7 +43,7 @@ fn main() -> Result<(), Refusal> {
     let slow = TimingValues { sps: 1.5, ..timing };
     if let Err(refusal) = Receiver::set_up(Constellation::Qpsk, slow, carrier) {
         let number = refusal.number();
-        println!("1.5 samples per symbol: refused with number {number}");
+        println!("1.5 samples per symbol: refused with number {number}, {refusal}");
     }
     let mut receiver = Receiver::set_up(Constellation::Qpsk, timing, carrier)?;
     receive(&mut receiver, &signal())?;

@@ -61,36 +61,43 @@ impl Carrier {
     }
 
     /// Frequency, in cycles per symbol: the estimate of the carrier's offset.
+    #[must_use]
     pub fn frequency(&self) -> f64 {
         self.readings().frequency
     }
 
     /// Phase before the next symbol: "32 bits are one turn".
+    #[must_use]
     pub fn phase(&self) -> u32 {
         self.readings().phase
     }
 
     /// The smoothed lock measure.
+    #[must_use]
     pub fn lock_level(&self) -> f32 {
         self.readings().lock_level
     }
 
     /// Whether there is lock: a level "above 0.5 sets lock, below 0.3 clears it".
+    #[must_use]
     pub fn locked(&self) -> bool {
         self.readings().locked
     }
 
     /// The constellation.
+    #[must_use]
     pub fn constellation(&self) -> Constellation {
         Constellation::from_code(self.readings().constellation)
     }
 
     /// The values of the set-up.
+    #[must_use]
     pub fn values(&self) -> CarrierValues {
         CarrierValues::from_raw(self.readings().values)
     }
 
     /// The record, to be read.
+    #[must_use]
     pub fn record(&self) -> &ffi::Carrier {
         &self.record
     }

@@ -16,11 +16,13 @@ pub enum Constellation {
 
 impl Constellation {
     /// The library's code.
+    #[must_use]
     pub fn code(self) -> u32 {
         self as u32
     }
 
     /// The constellation of a code. Any code but 0 and 1 reads as the last one.
+    #[must_use]
     pub fn from_code(code: u32) -> Self {
         match code {
             0 => Constellation::Bpsk,
@@ -32,6 +34,7 @@ impl Constellation {
 
 /// The symbol number of an output sample. "BPSK 1 if re is negative, or zero with im negative, else 0.
 /// 8-PSK: the octant 0 to 7 of `octant`; QPSK: half of that octant, rounded down. Silence reads as 0."
+#[must_use]
 pub fn symbol_number(constellation: Constellation, re: f32, im: f32) -> usize {
     // SAFETY: the function takes any code and any f32, all by value.
     unsafe { ffi::trr_symbol_number(constellation.code(), re, im) }

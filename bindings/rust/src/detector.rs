@@ -12,11 +12,13 @@ pub enum Detector {
 
 impl Detector {
     /// The library's code.
+    #[must_use]
     pub fn code(self) -> u32 {
         self as u32
     }
 
     /// The detector of a code. Any code but 0 reads as the last one.
+    #[must_use]
     pub fn from_code(code: u32) -> Self {
         match code {
             0 => Detector::Gardner,

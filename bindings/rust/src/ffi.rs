@@ -6,12 +6,35 @@
 //! What every caller must hold to:
 //!
 //! - A record is one that a set-up, reset, setter or run of the library has given. Nobody else writes
-//!   it. A refused set-up has given none.
+//!   it. A refused set-up has given none: the zeros in its place must not be used.
 //! - No pointer is null, even where the count is 0. The record and the buffers of one call do not
 //!   overlap.
 //! - Counts of buffers are counts of f32, two a complex sample. `consumed` and `produced` count samples.
 //!
-//! A code other than the named ones reads as the last one.
+//! A code other than the named ones reads as the last one. Padding bytes are no part of a record: compare
+//! records field by field.
+//!
+//! A reset or a setter answers the new record, and the one that is handed in stays as it was. So an answer
+//! must be used:
+//!
+//! ```
+//! #![deny(unused_must_use)]
+//! use train_receiver::ffi::{Carrier, trr_carrier_reset};
+//! unsafe fn again(x: Carrier) -> Carrier {
+//!     // SAFETY: the caller hands in a record that the library has given.
+//!     unsafe { trr_carrier_reset(x) }
+//! }
+//! ```
+//!
+//! ```compile_fail
+//! #![deny(unused_must_use)]
+//! use train_receiver::ffi::{Carrier, trr_carrier_reset};
+//! unsafe fn again(x: Carrier) -> Carrier {
+//!     // SAFETY: the caller hands in a record that the library has given.
+//!     unsafe { trr_carrier_reset(x) };
+//!     x
+//! }
+//! ```
 
 /// A complex sample, real part first.
 #[derive(Clone, Copy, Debug)]
@@ -25,6 +48,7 @@ pub struct C32 {
 
 /// The counts of a call, in samples.
 #[derive(Clone, Copy, Debug, PartialEq, Eq)]
+#[must_use = "what was not consumed must be handed again"]
 #[repr(C)]
 pub struct Progress {
     /// Input samples consumed. The next call's input begins with the first one that is not.
@@ -303,12 +327,16 @@ unsafe extern "C" {
     // Timing, real samples.
 
     /// Sets up a loop over real samples. Numbers: 0, and 1 to 6.
+    #[must_use]
     pub fn trr_real_set_up(v: TimingValues) -> TimingSetUp<f32>;
     /// The state as it was just after its set-up.
+    #[must_use = "the record that is handed in stays as it was"]
     pub fn trr_real_reset(x: Timing<f32>) -> Timing<f32>;
     /// What the state tells of itself.
+    #[must_use]
     pub fn trr_real_readings(x: Timing<f32>) -> TimingReadings;
     /// One run over real samples. It is never refused.
+    #[must_use = "the answer says whether the call is done and what it consumed"]
     pub fn trr_real_run(
         x: *mut Timing<f32>,
         input: *const f32,
@@ -320,12 +348,16 @@ unsafe extern "C" {
     // Timing, complex samples.
 
     /// Sets up a loop over complex samples. Numbers: 0, and 1 to 6.
+    #[must_use]
     pub fn trr_complex_set_up(v: TimingValues) -> TimingSetUp<C32>;
     /// The state as it was just after its set-up.
+    #[must_use = "the record that is handed in stays as it was"]
     pub fn trr_complex_reset(x: Timing<C32>) -> Timing<C32>;
     /// What the state tells of itself.
+    #[must_use]
     pub fn trr_complex_readings(x: Timing<C32>) -> TimingReadings;
     /// One run over complex samples. Numbers: 0 and 8.
+    #[must_use = "the answer says whether the call is done and what it consumed"]
     pub fn trr_complex_run(
         x: *mut Timing<C32>,
         input: *const f32,
@@ -337,16 +369,22 @@ unsafe extern "C" {
     // The carrier.
 
     /// Sets up a carrier loop. Numbers: 0, 2, 3 and 4.
+    #[must_use]
     pub fn trr_carrier_set_up(constellation: u32, v: CarrierValues) -> CarrierSetUp;
     /// The state as it was just after its set-up.
+    #[must_use = "the record that is handed in stays as it was"]
     pub fn trr_carrier_reset(x: Carrier) -> Carrier;
     /// The state with this phase, in units of 2^-32 turn.
+    #[must_use = "the record that is handed in stays as it was"]
     pub fn trr_carrier_set_phase(x: Carrier, phase: u32) -> Carrier;
     /// The state with this frequency, in cycles per symbol, narrowed, flushed and limited.
+    #[must_use = "the record that is handed in stays as it was"]
     pub fn trr_carrier_set_frequency(x: Carrier, freq: f64) -> Carrier;
     /// What the state tells of itself.
+    #[must_use]
     pub fn trr_carrier_readings(x: Carrier) -> CarrierReadings;
     /// One run: an output sample for each input sample. Numbers: 0, 7 and 8.
+    #[must_use = "the answer says whether the call is done and what it consumed"]
     pub fn trr_carrier_run(
         x: *mut Carrier,
         input: *const f32,
@@ -358,21 +396,27 @@ unsafe extern "C" {
     // The receiver.
 
     /// Sets up a receiver. Numbers: 0, and 1 to 6.
+    #[must_use]
     pub fn trr_receiver_set_up(
         constellation: u32,
         t: TimingValues,
         c: CarrierValues,
     ) -> ReceiverSetUp;
     /// The same without a constellation, which takes BPSK.
+    #[must_use]
     pub fn trr_receiver_set_up_unnamed(t: TimingValues, c: CarrierValues) -> ReceiverSetUp;
     /// The receiver as it was just after its set-up.
+    #[must_use = "the record that is handed in stays as it was"]
     pub fn trr_receiver_reset(x: Receiver) -> Receiver;
     /// The receiver with this phase of the carrier, in units of 2^-32 turn.
+    #[must_use = "the record that is handed in stays as it was"]
     pub fn trr_receiver_set_phase(x: Receiver, phase: u32) -> Receiver;
     /// What the receiver tells of itself.
+    #[must_use]
     pub fn trr_receiver_readings(x: Receiver) -> ReceiverReadings;
     /// One call: timing into the strobe buffer, the carrier from there into the output. Numbers: 0, 7
     /// and 8.
+    #[must_use = "the answer says whether the call is done and what it consumed"]
     pub fn trr_receiver_receive(
         x: *mut Receiver,
         input: *const f32,
@@ -383,5 +427,6 @@ unsafe extern "C" {
         output_len: usize,
     ) -> Counts;
     /// The symbol number of an output sample.
+    #[must_use]
     pub fn trr_symbol_number(constellation: u32, re: f32, im: f32) -> usize;
 }

@@ -85,6 +85,7 @@ impl Receiver {
     }
 
     /// The record, to be read.
+    #[must_use]
     pub fn record(&self) -> &ffi::Receiver {
         &self.record
     }
@@ -95,52 +96,62 @@ impl Receiver {
     /// Position of the next strobe in samples, counted from the first sample of the next call's input.
     /// It is negative while the strobe lies before that sample. "The next strobe is reported as
     /// (i - 3) + mu".
+    #[must_use]
     pub fn next_strobe(&self) -> f64 {
         self.readings().timing.next_strobe
     }
 
     /// The pace: the estimate of the samples per symbol.
+    #[must_use]
     pub fn sps_estimate(&self) -> f64 {
         self.readings().timing.sps_estimate
     }
 
     /// The carrier's frequency, in cycles per symbol: the estimate of its offset.
+    #[must_use]
     pub fn frequency(&self) -> f64 {
         self.readings().carrier.frequency
     }
 
     /// The carrier's phase before the next symbol: "32 bits are one turn".
+    #[must_use]
     pub fn phase(&self) -> u32 {
         self.readings().carrier.phase
     }
 
     /// The smoothed lock measure.
+    #[must_use]
     pub fn lock_level(&self) -> f32 {
         self.readings().carrier.lock_level
     }
 
     /// Whether there is lock: a level "above 0.5 sets lock, below 0.3 clears it".
+    #[must_use]
     pub fn locked(&self) -> bool {
         self.readings().carrier.locked
     }
 
     /// The constellation.
+    #[must_use]
     pub fn constellation(&self) -> Constellation {
         Constellation::from_code(self.readings().carrier.constellation)
     }
 
     /// Symbols produced since the set-up or the last reset. "It counts symbols in 32 bits and stops at
     /// the top."
+    #[must_use]
     pub fn count(&self) -> u32 {
         self.readings().count
     }
 
     /// The timing values of the set-up.
+    #[must_use]
     pub fn timing_values(&self) -> TimingValues {
         TimingValues::from_raw(self.readings().timing.values)
     }
 
     /// The carrier values of the set-up.
+    #[must_use]
     pub fn carrier_values(&self) -> CarrierValues {
         CarrierValues::from_raw(self.readings().carrier.values)
     }

@@ -41,11 +41,13 @@ impl Refusal {
     ];
 
     /// Document 01's number.
+    #[must_use]
     pub fn number(self) -> u32 {
         self as u32
     }
 
     /// Document 01's word.
+    #[must_use]
     pub fn word(self) -> &'static str {
         match self {
             Refusal::Pace => "pace",
@@ -59,25 +61,27 @@ impl Refusal {
         }
     }
 
-    /// Document 01's condition: the refusal is "given exactly if" it holds.
+    /// What is wrong: the refusal is given exactly if this holds. The C header's `trr_number_text` has the
+    /// same words.
+    #[must_use]
     pub fn condition(self) -> &'static str {
         match self {
-            Refusal::Pace => "sps is not finite or not in 2 to 1,000,000",
+            Refusal::Pace => "the samples per symbol are not a finite number from 2 to 1,000,000",
             Refusal::Width => {
-                "loop bandwidth is not finite or not in 0.0001 to 0.1 (timing), 0.0001 to 0.2 (carrier)"
+                "the loop bandwidth is not a finite number from 0.0001 to 0.1 (timing) or 0.2 (carrier)"
             }
-            Refusal::Damping => "not finite or not in 0.1 to 4",
+            Refusal::Damping => "the damping is not a finite number from 0.1 to 4",
             Refusal::Pull => {
-                "maximum deviation (timing) not finite or not in 0 to 0.05; \
-                 maximum offset (carrier, cycles per symbol) not finite or not in 0 to 0.25"
+                "the largest deviation (timing) is not a finite number from 0 to 0.05, or the largest \
+                 offset (carrier) none from 0 to 0.25 cycles per symbol"
             }
-            Refusal::Slope => "detector gain not finite or not above 0",
-            Refusal::Gains => "a timing gain comes out not finite",
+            Refusal::Slope => "the detector gain is not a finite number above 0",
+            Refusal::Gains => "a timing gain that follows from these values is not finite",
             Refusal::Uneven => {
-                "the carrier's input and output, or the receiver's strobe buffer and output, \
-                 differ in length"
+                "the carrier's input and output, or the receiver's strobes and output, are not equally \
+                 long"
             }
-            Refusal::Odd => "a complex buffer has an odd count of f32",
+            Refusal::Odd => "the count of f32 of a complex buffer is odd",
         }
     }
 

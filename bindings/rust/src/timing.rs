@@ -37,21 +37,25 @@ impl<S: Sample> Timing<S> {
     /// Position of the next strobe in samples, counted from the first sample of the next run's input.
     /// It is negative while the strobe lies before that sample. "The next strobe is reported as
     /// (i - 3) + mu".
+    #[must_use]
     pub fn next_strobe(&self) -> f64 {
         self.readings().next_strobe
     }
 
     /// The pace: the estimate of the samples per symbol.
+    #[must_use]
     pub fn sps_estimate(&self) -> f64 {
         self.readings().sps_estimate
     }
 
     /// The values of the set-up.
+    #[must_use]
     pub fn values(&self) -> TimingValues {
         TimingValues::from_raw(self.readings().values)
     }
 
     /// The record, to be read.
+    #[must_use]
     pub fn record(&self) -> &ffi::Timing<S> {
         &self.record
     }

@@ -1,5 +1,6 @@
 //! Codes and numbers are those of the C header and of document 01's table.
 
+use crate::compiled::Program;
 use crate::{CONSTELLATIONS, DETECTORS, carrier, timing};
 use train_receiver::{Constellation, Detector, Refusal, ffi, symbol_number};
 
@@ -21,20 +22,36 @@ fn refusals() {
         assert_eq!(refusal.number(), k);
         header_has(&format!("TRR_{}", refusal.word().to_uppercase()), k);
     }
+}
+
+/// The texts are those of the C header.
+#[test]
+fn texts() {
     assert_eq!(
         Refusal::Pace.to_string(),
-        "pace: sps is not finite or not in 2 to 1,000,000"
-    );
-    assert_eq!(
-        Refusal::Pull.to_string(),
-        "pull: maximum deviation (timing) not finite or not in 0 to 0.05; maximum offset (carrier, \
-         cycles per symbol) not finite or not in 0 to 0.25"
+        "pace: the samples per symbol are not a finite number from 2 to 1,000,000"
     );
     let error: Box<dyn std::error::Error> = Box::new(Refusal::Odd);
     assert_eq!(
         error.to_string(),
-        "odd: a complex buffer has an odd count of f32"
+        "odd: the count of f32 of a complex buffer is odd"
     );
+    let source = r#"
+        #include <stdio.h>
+        #include "train_receiver.h"
+        int main(void)
+        {
+            for (uint32_t number = 0; number < 10; number++) {
+                printf("%s\n", trr_number_text(number));
+            }
+            return 0;
+        }
+    "#;
+    let printed = Program::of_text("texts.c", source).printed();
+    let mut expected = vec!["done".to_string()];
+    expected.extend(Refusal::ALL.map(|refusal| refusal.to_string()));
+    expected.push("not a number of this library".to_string());
+    assert_eq!(printed.lines().collect::<Vec<_>>(), expected);
 }
 
 #[test]

@@ -3,9 +3,13 @@
 mod blocks;
 mod cases;
 mod codes;
+mod compiled;
+mod header;
 mod layout;
+mod missing_library;
 mod refused_calls;
 mod refused_set_ups;
+mod stack;
 mod states;
 
 use train_receiver::{CarrierValues, Constellation, Detector, TimingValues};
