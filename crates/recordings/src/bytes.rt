@@ -9,7 +9,7 @@ ghost use Rattle.recordings.specs.Bytes.{littleEndian, bytesOf};
 ghost use Rattle.recordings.specs.Samples.{floats};
 
 // The number that the first eight bytes spell; where there are fewer, those that are missing are zero.
-pub fn little_endian(bytes: &[u8]) -> u64
+pub(crate) fn little_endian(bytes: &[u8]) -> u64
     ensures value { λ r. ⌜ r ≡ littleEndian (take 8 (now (bytes .entry))) ⌝ }
     ensures below { λ r. ⌜ r < 256 ^ length (now (bytes .entry)) ⌝ }
 {

@@ -10,7 +10,6 @@ mod digits;
 mod lines;
 mod samples;
 
-pub use bytes::little_endian;
 pub use content::Content;
 pub use content::content_with;
 pub use decimals::thousandths;

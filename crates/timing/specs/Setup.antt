@@ -5,7 +5,6 @@ use mathlib.Core.List.{List, [], _∷_}
 use lib.Ieee.{Float, binary64}
 use lib.Ieee.Scale.{finite}
 use Rattle.ieee.specs.Notation.{_⊠_, zero₀, decimal}
-use Rattle.values.specs.declared.error.Refusal.{Refusal}
 use Rattle.values.specs.declared.error.Refusal.the-variants.{Pace, Width, Damping, Pull, Slope, Gains}
 use Rattle.values.specs.Refusal.{numberOf}
 use Rattle.checks.specs.Range.{inRange, positive}

@@ -12,6 +12,5 @@ pub use clock::next_strobe;
 pub use clock::settle;
 pub use params::Params;
 pub use params::Ted;
-pub use part::interp1;
 pub use setup::Tuning;
 pub use setup::tune;

@@ -10,7 +10,7 @@ const HALF: f32 = 0.5;
 const SIXTH: f32 = 0.16666667;
 
 // Cubic Lagrange interpolation mu after x0, from four samples in a row.
-pub fn interp1(xm1: f32, x0: f32, x1: f32, x2: f32, mu: f32) -> f32
+pub(crate) fn interp1(xm1: f32, x0: f32, x1: f32, x2: f32, mu: f32) -> f32
     ensures { λ r. ⌜ r ≡ interpolated xm1 x0 x1 x2 mu ⌝ }
 {
     let c1 = ((-(xm1 * THIRD) - x0 * HALF) + x1) - x2 * SIXTH;

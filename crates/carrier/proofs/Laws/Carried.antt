@@ -1,6 +1,6 @@
 -- A run over buffers of any lengths, where the output has room for the input: all its symbols are carried; and of buffers of one length that hold whole samples it is a call that is not refused. Assumes nothing.
-use mathlib.Core.Path.{_≡_, sym, ap, _∙_}
-use Prim.Native.Nat.{ℕ, _*_, _/_, _%_, _≤_}
+use mathlib.Core.Path.{_≡_, ap, _∙_}
+use Prim.Native.Nat.{_/_, _%_, _≤_}
 use native.Mathlib.Omega.{arith}
 use mathlib.Core.List.{List, _++_, append-nil}
 use lib.ListN.{length, drop-of-length-le}
@@ -12,7 +12,7 @@ use Rattle.values.specs.Buffers.{written}
 use Rattle.values.proofs.Laws.Samples.{length-samples, samples-take}
 use Rattle.cosine.specs.Table.{cosList}
 use Rattle.carrier.specs.declared.state.CostasState.{CostasState}
-use Rattle.carrier.specs.Step.{Symbols, runs}
+use Rattle.carrier.specs.Step.{runs}
 use Rattle.carrier.specs.Run.{Outcome, done, carried}
 use Rattle.carrier.proofs.Laws.Count.{done-length}
 

@@ -9,7 +9,7 @@ use Rattle.values.specs.declared.error.Refusal.{Refusal}
 use Rattle.values.specs.declared.error.Refusal.the-variants.{Pace, Width, Damping, Pull, Slope, Gains, Uneven, Odd}
 use Rattle.values.specs.Refusal.{numberOf}
 use Rattle.checks.specs.Table.{Row, firstOf, Passed, First, here, later, Exactly}
-use Rattle.checks.proofs.Laws.Rows.{first-passed, first-refused, first-all, first-map}
+use Rattle.checks.proofs.Laws.Rows.{first-passed, first-refused, first-all}
 
 -- no refusal has the number 0
 numbered : (n : Refusal) → 0 < numberOf n

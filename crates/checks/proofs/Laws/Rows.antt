@@ -2,7 +2,6 @@
 use mathlib.Core.Path.{_≡_, refl, sym, ap, _∙_}
 use mathlib.Core.Bool.{Bool, true, false, not, cond}
 use mathlib.Core.List.{List, [], _∷_, _++_}
-use lib.Dec.{T}
 use lib.Ieee.Bits.{is-true}
 use Rattle.values.specs.declared.error.Refusal.{Refusal}
 use Rattle.checks.specs.Table.{Row, firstOf, Passed}

@@ -1,14 +1,11 @@
 -- The source's `Internal` errors never occur, and the position between calls has a bound: each of its checks asks of a place what a running clock gives. Assumes nothing.
-use mathlib.Core.Bool.{Bool, true, false, cond}
-use Prim.Native.Nat.{ℕ, _+_, _-_, _≤_, _<_, _^_, min}
+use mathlib.Core.Bool.{Bool, true, false}
+use Prim.Native.Nat.{ℕ, _+_, _-_, _≤_, _<_}
 use native.Mathlib.Omega.{arith}
 use lib.Dec.{T}
-use lib.Ieee.{Float}
-use lib.Ieee.Scale.{finite}
-use Rattle.numbers.specs.Whole.{floorPlus}
 use Rattle.timing.specs.declared.params.Params.{Params}
 use Rattle.timing.specs.declared.clock.Clock.{Clock}
-use Rattle.timing.specs.Clock.{midIndex, moved}
+use Rattle.timing.specs.Clock.{midIndex}
 use Rattle.timing.specs.Given.{Running}
 use Rattle.timing.specs.Inside.{Inside}
 use Rattle.timing.proofs.Laws.Clock.{running-able, running-pending}

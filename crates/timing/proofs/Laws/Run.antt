@@ -1,21 +1,17 @@
 -- A whole run, and a call on real and on complex samples: a given state leaves a given state; the counts; the places that a call leaves; a refused call. Assumes nothing.
 use mathlib.Core.Path.{_≡_, refl, _∙_, subst}
-use mathlib.Core.Bool.{Bool, true, false, cond, or-true}
+use mathlib.Core.Bool.{Bool, true, false, cond}
 use mathlib.Core.List.{List}
-use Prim.Native.Nat.{ℕ, _+_, _*_, _/_, _%_, _≤_, _<_}
+use Prim.Native.Nat.{ℕ, _+_, _*_, _/_, _≤_, _<_}
 use native.Mathlib.Nat.{mul-le-mul-left}
 use native.Mathlib.Omega.{arith}
-use borrow.Author.Tests.{eqb-false, eq-eqb, ne-eqb}
-use lib.Dec.{eqb}
 use lib.ListN.{length, drop, length-append, length-drop}
 use lib.Seq.{drop-append-seam}
 use lib.Ieee.{Float}
-use Rattle.ieee.proofs.Laws.Test.{neither-test}
 use Rattle.values.specs.declared.sample.C32.{C32}
 use Rattle.values.specs.declared.error.Refusal.the-variants.{Odd}
 use Rattle.values.specs.Samples.{samples}
 use Rattle.values.specs.Buffers.{oddEither}
-use Rattle.values.proofs.Laws.Buffers.{written-length}
 use Rattle.values.proofs.Laws.Samples.{length-samples}
 use Rattle.timing.specs.Sample.{Ops, real, complex}
 use Rattle.timing.specs.Loop.{lacks, runs, consumed, pending, trackBack}

@@ -1,9 +1,7 @@
 -- `checks::above_zero` meets its contract: by the test for a finite value. Assumes nothing.
-use mathlib.Core.Path.{refl, sym, ap, _∙_}
-use mathlib.Core.Bool.{Bool, _&&_}
-use lib.Ieee.{ofBits, lt}
+use mathlib.Core.Path.{refl, sym, _∙_}
+use lib.Ieee.{ofBits}
 use borrow.Author.Needs.{needs}
-use Rattle.ieee.specs.Notation.{zero₀}
 use Rattle.ieee.proofs.Laws.Test.{and-held, and-failed}
 use Rattle.checks.specs.Range.{positive}
 use Rattle.checks.proofs.range.above_zero.Statement.{statement}

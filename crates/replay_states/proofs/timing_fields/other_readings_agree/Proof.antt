@@ -1,7 +1,6 @@
 -- `replay_states::timing_fields::other_readings_agree` meets its contract: the words compared are the bits of two readings and the detector's code. Assumes nothing.
 use mathlib.Core.Path.{_∙_}
 use Rattle.replay.specs.Line.{has}
-use Rattle.replay_states.specs.Codes.{codeOfDetector}
 use borrow.Author.Needs.{needs}
 use Rattle.replay_states.proofs.timing_fields.other_readings_agree.Statement.{statement}
 use Rattle.replay_states.proofs.timing_fields.other_readings_agree.Tie as tie
