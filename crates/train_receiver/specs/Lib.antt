@@ -1,7 +1,1 @@
-pub mod Faithful
-pub mod Codes
-pub mod Timing
-pub mod RealTiming
-pub mod ComplexTiming
-pub mod Carrier
-pub mod Whole
+pub mod Readings

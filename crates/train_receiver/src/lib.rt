@@ -7,8 +7,6 @@
 // caller lends. Nothing here requires anything but `Given` of a record: that a set-up, a reset, a setter or
 // a call of this library has given it.
 mod carrier_loop;
-mod codes;
 mod complex_timing;
-mod params;
 mod real_timing;
 mod whole;

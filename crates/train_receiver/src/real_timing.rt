@@ -1,97 +1,22 @@
 // Symbol timing recovery of real samples.
-use crate::codes::detector;
-use crate::params::TimingParams;
-use crate::params::TimingReadings;
-use crate::params::TimingValues;
-use crate::params::params_of;
-use crate::params::params_record;
-use real_sync::Hist;
-use real_sync::SymbolSyncState;
-use real_sync::Track;
-use timing::Clock;
+use plain::detector;
+use plain_timing::TimingReadings;
+use plain_timing::TimingValues;
+use plain_timing::real::RealSetUp;
+use plain_timing::real::RealTiming;
+use plain_timing::real::answer_of;
+use plain_timing::real::record_of;
+use plain_timing::real::run;
+use plain_timing::real::state_of;
 use values::Progress;
 ghost use mathlib.Core.Path.{_≡_};
 ghost use Rattle.timing.specs.Sample.{real as realOps};
 ghost use Rattle.timing.specs.Setup.{tuned};
 ghost use Rattle.timing.specs.Run.{fresh, openedBy, calledReal};
-ghost use Rattle.real_sync.specs.Views.{sync, outcomeOf};
-ghost use Rattle.train_receiver.specs.Codes.{detectorOf};
-ghost use Rattle.train_receiver.specs.Timing.{paramsOf, readingsOf};
-ghost use Rattle.train_receiver.specs.RealTiming.{syncOf, recordOf, none, setUpOf, Given};
-
-// The state as a plain record.
-#[repr(C)]
-pub struct RealTiming {
-    pub params: TimingParams,
-    pub hist: Hist,
-    pub track: Track,
-}
-
-// The answer of a set-up: document 01's number, and the state where the number is 0. Where it is not,
-// there is no state: the record is all zeros, and no call may be given it.
-#[repr(C)]
-pub struct RealSetUp {
-    pub number: u32,
-    pub state: RealTiming,
-}
-
-// The state that a record stands for.
-fn state_of(x: RealTiming) -> SymbolSyncState
-    ensures { λ r. ⌜ sync r ≡ syncOf x ⌝ }
-{
-    let p = x.params;
-    let h = x.hist;
-    let t = x.track;
-    SymbolSyncState {
-        params: params_of(p),
-        hist: h,
-        track: t,
-    }
-}
-
-// The record of a state.
-fn record_of(s: SymbolSyncState) -> RealTiming
-    ensures { λ r. ⌜ r ≡ recordOf (sync s) ⌝ }
-{
-    let p = s.params;
-    let h = s.hist;
-    let t = s.track;
-    RealTiming {
-        params: params_record(p),
-        hist: h,
-        track: t,
-    }
-}
-
-// What a refused set-up has in the place of a state.
-fn no_state() -> RealTiming
-    ensures { λ r. ⌜ r ≡ none ⌝ }
-{
-    let h = Hist {
-        a: 0.0,
-        b: 0.0,
-        c: 0.0,
-    };
-    let clock = Clock {
-        i: 0,
-        mu: 0.0,
-        omega: 0.0,
-        integ: 0.0,
-    };
-    let t = Track {
-        clock: clock,
-        y_prev: 0.0,
-        d_prev: 0.0,
-        mid: 0.0,
-        mid_ready: false,
-        started: false,
-    };
-    RealTiming {
-        params: crate::params::no_params(),
-        hist: h,
-        track: t,
-    }
-}
+ghost use Rattle.real_sync.specs.Views.{outcomeOf};
+ghost use Rattle.plain.specs.Codes.{detectorOf};
+ghost use Rattle.plain_timing.specs.Params.{paramsOf, readingsOf};
+ghost use Rattle.plain_timing.specs.Real.{syncOf, recordOf, setUpOf, Given};
 
 // A fresh state, or the lowest number of what is wrong with the values.
 #[no_mangle]
@@ -99,24 +24,14 @@ pub extern "C" fn trr_real_set_up(v: TimingValues) -> RealSetUp
     ensures outcome { λ r. ⌜ r ≡ setUpOf (openedBy realOps (tuned (v .sps) (detectorOf (v .ted)) (v .«loop_bw») (v .damping) (v .«max_deviation») (v .«ted_gain»))) ⌝ }
     ensures given { λ r. ⌜ (r .number ≡ 0 → Given (r .state)) ⌝ }
 {
-    let answer = real_sync::set_up(
+    answer_of(real_sync::set_up(
         v.sps,
         detector(v.ted),
         v.loop_bw,
         v.damping,
         v.max_deviation,
         v.ted_gain,
-    );
-    match answer {
-        real_sync::SetUp::Ready(s) => RealSetUp {
-            number: 0,
-            state: record_of(s),
-        },
-        real_sync::SetUp::Refused(n) => RealSetUp {
-            number: n.number(),
-            state: no_state(),
-        },
-    }
+    ))
 }
 
 // The fresh state of the same parameters.
@@ -135,28 +50,7 @@ pub extern "C" fn trr_real_readings(x: RealTiming) -> TimingReadings
     ensures { λ r. ⌜ r ≡ readingsOf (x .params) (x .track .clock) ⌝ }
 {
     let p = x.params;
-    crate::params::readings(p, x.track.clock)
-}
-
-// The counts of a call, and the record after it.
-pub struct RealRan {
-    pub counts: Progress,
-    pub state: RealTiming,
-}
-
-// One call, the record by value.
-fn run(x: RealTiming, input: &[f32], output: &mut [f32]) -> RealRan
-    requires { ⌜ Given x ⌝ }
-    ensures outcome { λ r. ⌜ outcomeOf (r .counts) (syncOf (r .state)) (now (output .exit)) ≡ calledReal (syncOf x) (now (input .entry)) (now (output .entry)) ⌝ }
-    ensures given { λ r. ⌜ Given (r .state) ⌝ }
-{
-    let ran = real_sync::run(state_of(x), input, output);
-    let counts = ran.progress;
-    let s = ran.state;
-    RealRan {
-        counts: counts,
-        state: record_of(s),
-    }
+    plain_timing::readings(p, x.track.clock)
 }
 
 // One call over a record that the caller lends, which is brought up to date. It is never refused.

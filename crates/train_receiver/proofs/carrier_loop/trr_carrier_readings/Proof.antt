@@ -1,7 +1,7 @@
 -- `train_receiver::carrier_loop::trr_carrier_readings` meets its contract: the four readings are the state's own. Assumes nothing.
 use mathlib.Core.Path.{ap, _∙_}
 use Rattle.carrier.specs.declared.state.CostasState.{CostasState}
-use Rattle.train_receiver.specs.Carrier.{readingsOf}
+use Rattle.train_receiver.specs.Readings.{carrierReadings}
 use borrow.Author.Needs.{needs}
 use Rattle.train_receiver.proofs.carrier_loop.trr_carrier_readings.Statement.{statement}
 use Rattle.train_receiver.proofs.carrier_loop.trr_carrier_readings.Tie as tie
@@ -28,7 +28,7 @@ returns c =
     let state = u .state-of .ensures in
     λ j. record {
       constellation = x .constellation;
-      values = readingsOf x .values;
+      values = carrierReadings x .values;
       frequency = (c .before .before .before .frequency .ensures ∙ ap (λ (s : CostasState). s .track .nco .freq) state) j;
       phase = (c .before .before .phase .ensures ∙ ap (λ (s : CostasState). s .track .nco .phase) state) j;
       «lock_level» = (c .before .lock-level .ensures ∙ ap (λ (s : CostasState). s .track .lock .level) state) j;

@@ -1,18 +1,18 @@
 -- `train_receiver::carrier_loop::trr_carrier_run` meets its contract: it is the entry of the crate `lent`, with one output, at the carrier's record and its number. Assumes nothing.
 use mathlib.Core.Path.{_≡_, refl}
 use Rattle.carrier.specs.Run.{called}
-use Rattle.train_receiver.specs.Carrier.{stateOf, outcomeOf, Given}
-use Rattle.train_receiver.specs.declared.carrier_loop.CarrierRan.{CarrierRan}
+use Rattle.plain_carrier.specs.Carrier.{stateOf, outcomeOf, Given}
+use Rattle.plain_carrier.specs.declared.CarrierRan.{CarrierRan}
 use Rattle.lent.proofs.Laws.Entry.{Entry, writes-back, function}
 use Rattle.lent.proofs.Laws.Lent.{entry-meets}
-use Rattle.train_receiver.proofs.carrier_loop.Carrier as state
-use Rattle.train_receiver.proofs.carrier_loop.Carrier.Laws as state-laws
+use Rattle.plain_carrier.proofs.Carrier as state
+use Rattle.plain_carrier.proofs.Carrier.Laws as state-laws
 use denote.Struct.Field.{u32-field}
 use denote.Struct.Laws.{u32-laws, u32-plain}
 use mir.Syntax.{tyInt, w32}
-use Rattle.train_receiver.proofs.carrier_loop.CarrierRan as ran
-use Rattle.train_receiver.proofs.carrier_loop.run.Symbol as run
-use Rattle.train_receiver.proofs.carrier_loop.run.Met as run-met
+use Rattle.plain_carrier.proofs.CarrierRan as ran
+use Rattle.plain_carrier.proofs.run.Symbol as run
+use Rattle.plain_carrier.proofs.run.Met as run-met
 use Rattle.train_receiver.proofs.carrier_loop.trr_carrier_run.Key as key
 use Rattle.train_receiver.proofs.carrier_loop.trr_carrier_run.Code as code
 use Rattle.train_receiver.proofs.carrier_loop.trr_carrier_run.Statement.{statement}
@@ -43,4 +43,4 @@ code-is = refl
 pub trr-carrier-run-spec : {M : Type 1} → statement M
 unfolding code.routine
 trr-carrier-run-spec 𝓤 H 𝓜 𝓖 𝓡 =
-    entry-meets entry 𝓤 H 𝓜 𝓖 𝓡 code.env key.name code.function code-is (code.unfolded 𝓤 H 𝓜 𝓡) run.routine code.calls-train-receiver·carrier-loop·run (run-met.met 𝓤 H 𝓜 𝓖 𝓡)
+    entry-meets entry 𝓤 H 𝓜 𝓖 𝓡 code.env key.name code.function code-is (code.unfolded 𝓤 H 𝓜 𝓡) run.routine code.calls-plain-carrier·run (run-met.met 𝓤 H 𝓜 𝓖 𝓡)

@@ -2,9 +2,9 @@
 use mathlib.Core.Path.{ap, _∙_}
 use Rattle.carrier.specs.declared.state.CostasState.{CostasState}
 use Rattle.carrier.specs.State.{phaseSet}
-use Rattle.train_receiver.specs.Carrier.{recordOf}
-use Rattle.train_receiver.proofs.Laws.Recorded.{stays-given, came-given}
-use Rattle.train_receiver.proofs.Laws.Carrier.{carrier-faithful}
+use Rattle.plain_carrier.specs.Carrier.{recordOf}
+use Rattle.plain.proofs.Laws.Recorded.{stays-given, came-given}
+use Rattle.plain_carrier.proofs.Laws.Faithful.{carrier-faithful}
 use borrow.Author.Needs.{needs}
 use Rattle.train_receiver.proofs.carrier_loop.trr_carrier_set_phase.Statement.{statement}
 use Rattle.train_receiver.proofs.carrier_loop.trr_carrier_set_phase.Tie as tie

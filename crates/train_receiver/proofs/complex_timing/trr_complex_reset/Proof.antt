@@ -3,9 +3,9 @@ use mathlib.Core.Path.{ap, _∙_}
 use Rattle.values.specs.declared.sample.C32.{C32}
 use Rattle.timing.specs.Sample.{complex}
 use Rattle.timing.specs.Run.{Sync, fresh}
-use Rattle.train_receiver.specs.ComplexTiming.{recordOf}
-use Rattle.train_receiver.proofs.Laws.Recorded.{stays-given, came-given}
-use Rattle.train_receiver.proofs.Laws.Timing.{complex-faithful}
+use Rattle.plain_timing.specs.Complex.{recordOf}
+use Rattle.plain.proofs.Laws.Recorded.{stays-given, came-given}
+use Rattle.plain_timing.proofs.Laws.Faithful.{complex-faithful}
 use borrow.Author.Needs.{needs}
 use Rattle.train_receiver.proofs.complex_timing.trr_complex_reset.Statement.{statement}
 use Rattle.train_receiver.proofs.complex_timing.trr_complex_reset.Tie as tie

@@ -1,17 +1,17 @@
 -- `train_receiver::complex_timing::trr_complex_run` meets its contract: it is the entry of the crate `lent`, with one output, at the complex loop's record and its answer. Assumes nothing.
 use mathlib.Core.Path.{_≡_, refl}
 use Rattle.timing.specs.Run.{calledComplex}
-use Rattle.train_receiver.specs.ComplexTiming.{syncOf, outcomeOf, Given}
-use Rattle.train_receiver.specs.declared.complex_timing.ComplexRan.{ComplexRan}
+use Rattle.plain_timing.specs.Complex.{syncOf, outcomeOf, Given}
+use Rattle.plain_timing.specs.declared.complex.ComplexRan.{ComplexRan}
 use Rattle.lent.proofs.Laws.Entry.{Entry, writes-back, function}
 use Rattle.lent.proofs.Laws.Lent.{entry-meets}
-use Rattle.train_receiver.proofs.complex_timing.ComplexTiming as state
-use Rattle.train_receiver.proofs.complex_timing.ComplexTiming.Laws as state-laws
-use Rattle.train_receiver.proofs.params.Counts as answer
-use Rattle.train_receiver.proofs.params.Counts.Laws as answer-laws
-use Rattle.train_receiver.proofs.complex_timing.ComplexRan as ran
-use Rattle.train_receiver.proofs.complex_timing.run.Symbol as run
-use Rattle.train_receiver.proofs.complex_timing.run.Met as run-met
+use Rattle.plain_timing.proofs.complex.ComplexTiming as state
+use Rattle.plain_timing.proofs.complex.ComplexTiming.Laws as state-laws
+use Rattle.plain.proofs.counts.Counts as answer
+use Rattle.plain.proofs.counts.Counts.Laws as answer-laws
+use Rattle.plain_timing.proofs.complex.ComplexRan as ran
+use Rattle.plain_timing.proofs.complex.run.Symbol as run
+use Rattle.plain_timing.proofs.complex.run.Met as run-met
 use Rattle.train_receiver.proofs.complex_timing.trr_complex_run.Key as key
 use Rattle.train_receiver.proofs.complex_timing.trr_complex_run.Code as code
 use Rattle.train_receiver.proofs.complex_timing.trr_complex_run.Statement.{statement}
@@ -42,4 +42,4 @@ code-is = refl
 pub trr-complex-run-spec : {M : Type 1} → statement M
 unfolding code.routine
 trr-complex-run-spec 𝓤 H 𝓜 𝓖 𝓡 =
-    entry-meets entry 𝓤 H 𝓜 𝓖 𝓡 code.env key.name code.function code-is (code.unfolded 𝓤 H 𝓜 𝓡) run.routine code.calls-train-receiver·complex-timing·run (run-met.met 𝓤 H 𝓜 𝓖 𝓡)
+    entry-meets entry 𝓤 H 𝓜 𝓖 𝓡 code.env key.name code.function code-is (code.unfolded 𝓤 H 𝓜 𝓡) run.routine code.calls-plain-timing·complex·run (run-met.met 𝓤 H 𝓜 𝓖 𝓡)

@@ -3,9 +3,9 @@ use mathlib.Core.Path.{ap, _∙_}
 use lib.Ieee.{Float}
 use Rattle.timing.specs.Sample.{real}
 use Rattle.timing.specs.Run.{Sync, fresh}
-use Rattle.train_receiver.specs.RealTiming.{recordOf}
-use Rattle.train_receiver.proofs.Laws.Recorded.{stays-given, came-given}
-use Rattle.train_receiver.proofs.Laws.Timing.{real-faithful}
+use Rattle.plain_timing.specs.Real.{recordOf}
+use Rattle.plain.proofs.Laws.Recorded.{stays-given, came-given}
+use Rattle.plain_timing.proofs.Laws.Faithful.{real-faithful}
 use borrow.Author.Needs.{needs}
 use Rattle.train_receiver.proofs.real_timing.trr_real_reset.Statement.{statement}
 use Rattle.train_receiver.proofs.real_timing.trr_real_reset.Tie as tie

@@ -2,17 +2,17 @@
 use mathlib.Core.Path.{_≡_, refl}
 use Rattle.timing.specs.Run.{calledReal}
 use Rattle.real_sync.specs.Views.{outcomeOf}
-use Rattle.train_receiver.specs.RealTiming.{syncOf, Given}
-use Rattle.train_receiver.specs.declared.real_timing.RealRan.{RealRan}
+use Rattle.plain_timing.specs.Real.{syncOf, Given}
+use Rattle.plain_timing.specs.declared.real.RealRan.{RealRan}
 use Rattle.lent.proofs.Laws.Entry.{Entry, writes-back, function}
 use Rattle.lent.proofs.Laws.Lent.{entry-meets}
-use Rattle.train_receiver.proofs.real_timing.RealTiming as state
-use Rattle.train_receiver.proofs.real_timing.RealTiming.Laws as state-laws
+use Rattle.plain_timing.proofs.real.RealTiming as state
+use Rattle.plain_timing.proofs.real.RealTiming.Laws as state-laws
 use Rattle.values.proofs.progress.Progress as answer
 use Rattle.values.proofs.progress.Progress.Laws as answer-laws
-use Rattle.train_receiver.proofs.real_timing.RealRan as ran
-use Rattle.train_receiver.proofs.real_timing.run.Symbol as run
-use Rattle.train_receiver.proofs.real_timing.run.Met as run-met
+use Rattle.plain_timing.proofs.real.RealRan as ran
+use Rattle.plain_timing.proofs.real.run.Symbol as run
+use Rattle.plain_timing.proofs.real.run.Met as run-met
 use Rattle.train_receiver.proofs.real_timing.trr_real_run.Key as key
 use Rattle.train_receiver.proofs.real_timing.trr_real_run.Code as code
 use Rattle.train_receiver.proofs.real_timing.trr_real_run.Statement.{statement}
@@ -43,4 +43,4 @@ code-is = refl
 pub trr-real-run-spec : {M : Type 1} → statement M
 unfolding code.routine
 trr-real-run-spec 𝓤 H 𝓜 𝓖 𝓡 =
-    entry-meets entry 𝓤 H 𝓜 𝓖 𝓡 code.env key.name code.function code-is (code.unfolded 𝓤 H 𝓜 𝓡) run.routine code.calls-train-receiver·real-timing·run (run-met.met 𝓤 H 𝓜 𝓖 𝓡)
+    entry-meets entry 𝓤 H 𝓜 𝓖 𝓡 code.env key.name code.function code-is (code.unfolded 𝓤 H 𝓜 𝓡) run.routine code.calls-plain-timing·real·run (run-met.met 𝓤 H 𝓜 𝓖 𝓡)

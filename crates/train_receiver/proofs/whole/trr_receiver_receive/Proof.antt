@@ -1,17 +1,17 @@
 -- `train_receiver::whole::trr_receiver_receive` meets its contract: it is the entry of the crate `lent`, with two outputs, at the receiver's record and its answer. Assumes nothing.
 use mathlib.Core.Path.{_≡_, refl}
 use Rattle.receiver.specs.Call.{called}
-use Rattle.train_receiver.specs.Whole.{receiverOf, outcomeOf, Given}
-use Rattle.train_receiver.specs.declared.whole.ReceiverRan.{ReceiverRan}
+use Rattle.plain_receiver.specs.Receiver.{receiverOf, outcomeOf, Given}
+use Rattle.plain_receiver.specs.declared.ReceiverRan.{ReceiverRan}
 use Rattle.lent.proofs.Laws.Entry.{Entry, writes-back, function}
 use Rattle.lent.proofs.Laws.Lent.{entry-meets}
-use Rattle.train_receiver.proofs.whole.Receiver as state
-use Rattle.train_receiver.proofs.whole.Receiver.Laws as state-laws
-use Rattle.train_receiver.proofs.params.Counts as answer
-use Rattle.train_receiver.proofs.params.Counts.Laws as answer-laws
-use Rattle.train_receiver.proofs.whole.ReceiverRan as ran
-use Rattle.train_receiver.proofs.whole.run.Symbol as run
-use Rattle.train_receiver.proofs.whole.run.Met as run-met
+use Rattle.plain_receiver.proofs.Receiver as state
+use Rattle.plain_receiver.proofs.Receiver.Laws as state-laws
+use Rattle.plain.proofs.counts.Counts as answer
+use Rattle.plain.proofs.counts.Counts.Laws as answer-laws
+use Rattle.plain_receiver.proofs.ReceiverRan as ran
+use Rattle.plain_receiver.proofs.run.Symbol as run
+use Rattle.plain_receiver.proofs.run.Met as run-met
 use Rattle.train_receiver.proofs.whole.trr_receiver_receive.Key as key
 use Rattle.train_receiver.proofs.whole.trr_receiver_receive.Code as code
 use Rattle.train_receiver.proofs.whole.trr_receiver_receive.Statement.{statement}
@@ -42,4 +42,4 @@ code-is = refl
 pub trr-receiver-receive-spec : {M : Type 1} → statement M
 unfolding code.routine
 trr-receiver-receive-spec 𝓤 H 𝓜 𝓖 𝓡 =
-    entry-meets entry 𝓤 H 𝓜 𝓖 𝓡 code.env key.name code.function code-is (code.unfolded 𝓤 H 𝓜 𝓡) run.routine code.calls-train-receiver·whole·run (run-met.met 𝓤 H 𝓜 𝓖 𝓡)
+    entry-meets entry 𝓤 H 𝓜 𝓖 𝓡 code.env key.name code.function code-is (code.unfolded 𝓤 H 𝓜 𝓡) run.routine code.calls-plain-receiver·run (run-met.met 𝓤 H 𝓜 𝓖 𝓡)

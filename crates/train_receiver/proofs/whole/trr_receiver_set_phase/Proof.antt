@@ -2,9 +2,9 @@
 use mathlib.Core.Path.{ap, _∙_}
 use Rattle.receiver.specs.declared.record.Receiver.{Receiver}
 use Rattle.receiver.specs.Record.{phaseSet}
-use Rattle.train_receiver.specs.Whole.{recordOf}
-use Rattle.train_receiver.proofs.Laws.Recorded.{stays-given, came-given}
-use Rattle.train_receiver.proofs.Laws.Whole.{receiver-faithful}
+use Rattle.plain_receiver.specs.Receiver.{recordOf}
+use Rattle.plain.proofs.Laws.Recorded.{stays-given, came-given}
+use Rattle.plain_receiver.proofs.Laws.Receiver.{receiver-faithful}
 use borrow.Author.Needs.{needs}
 use Rattle.train_receiver.proofs.whole.trr_receiver_set_phase.Statement.{statement}
 use Rattle.train_receiver.proofs.whole.trr_receiver_set_phase.Tie as tie

@@ -1,0 +1,30 @@
+// The answer of a call as its number and its counts.
+use values::Answer;
+ghost use mathlib.Core.Path.{_≡_};
+ghost use Rattle.plain.specs.Counts.{countsOf};
+
+// What a call answers: document 01's number, 0 where it is done, and the two counts.
+#[repr(C)]
+pub struct Counts {
+    pub number: u32,
+    pub consumed: usize,
+    pub produced: usize,
+}
+
+// An answer as its number and counts.
+pub fn counts_of(a: Answer) -> Counts
+    ensures { λ r. ⌜ r ≡ countsOf a ⌝ }
+{
+    match a {
+        Answer::Done(p) => Counts {
+            number: 0,
+            consumed: p.consumed,
+            produced: p.produced,
+        },
+        Answer::Refused(n) => Counts {
+            number: n.number(),
+            consumed: 0,
+            produced: 0,
+        },
+    }
+}

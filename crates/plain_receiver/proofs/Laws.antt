@@ -1,0 +1,2 @@
+-- The laws of the receiver as a plain record.
+pub mod Receiver

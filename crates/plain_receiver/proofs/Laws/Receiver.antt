@@ -1,0 +1,66 @@
+-- The receiver's record stands for the receiver faithfully, and a refused call leaves the very same record. Assumes nothing.
+use mathlib.Core.Path.{_≡_, ap, sym, subst}
+use Prim.Native.Nat.{_<_}
+use native.Mathlib.Omega.{arith}
+use mathlib.Core.Bool.{Bool, true, false, cond}
+use mathlib.Core.List.{List}
+use lib.Dec.{eqb}
+use lib.ListN.{length}
+use lib.Ieee.{Float}
+use Rattle.values.specs.declared.error.Refusal.the-variants.{Uneven, Odd}
+use Rattle.timing.specs.Run as run
+use Rattle.complex_sync.specs.Views.{sync}
+use Rattle.complex_sync.specs.Views as complex
+use Rattle.receiver.specs.declared.record.Receiver as declaredReceiver
+use Rattle.receiver.specs.Record as receiver
+use Rattle.receiver.specs.Call.{Outcome, turnedAway, oddAny, done, called}
+use Rattle.plain.specs.declared.counts.Counts.{Counts}
+use Rattle.plain_receiver.specs.declared.Receiver.{Receiver}
+use Rattle.plain.specs.Faithful.{Faithful}
+use Rattle.plain_receiver.specs.Receiver.{receiverOf, recordOf, outcomeOf, Given}
+use Rattle.plain.proofs.Laws.Codes.{detector-below, constellation-below}
+use Rattle.plain.proofs.Laws.Recorded.{same-record}
+use Rattle.plain_timing.proofs.Laws.Faithful.{complex-faithful}
+use Rattle.plain_carrier.proofs.Laws.Faithful.{carrier-faithful}
+
+state-back : (r : declaredReceiver.Receiver) → receiverOf (recordOf r) ≡ r
+state-back r = λ j. record { timing = complex.stateOf (complex-faithful .state-back (sync (r .timing)) j); carrier = carrier-faithful .state-back (r .carrier) j; count = r .count }
+
+record-back : (x : Receiver) → Given x → recordOf (receiverOf x) ≡ x
+record-back x g =
+    λ j. record {
+      timing = complex-faithful .record-back (x .timing) (record { state = g .receiver .timing; detector = g .detector }) j;
+      carrier = carrier-faithful .record-back (x .carrier) (record { state = g .receiver .carrier; constellation = g .constellation }) j;
+      count = x .count;
+    }
+
+pub receiver-faithful : Faithful receiverOf recordOf receiver.Given Given
+receiver-faithful = record {
+  state-back = state-back;
+  record-back = record-back;
+  given-out = λ r g. record { receiver = subst receiver.Given (sym (state-back r)) g; detector = detector-below (r .timing .params .ted); constellation = constellation-below (r .carrier .constellation) };
+  given-in = λ x g. g .receiver;
+}
+
+-- ---- a refused call
+-- an outcome with the receiver and the buffers that the call found
+record AsFound (r : declaredReceiver.Receiver) (zs ys : List Float) (o : Outcome) : Type 0 where
+  receiver : o .receiver ≡ r
+  strobes : o .strobes ≡ zs
+  output : o .output ≡ ys
+
+-- "A refused run yields … the same state, and every buffer unchanged."
+called-as-found : (r : declaredReceiver.Receiver) (xs zs ys : List Float) (o : Outcome) → o ≡ called r xs zs ys → 0 < o .number → AsFound r zs ys o
+unfolding called done
+called-as-found r xs zs ys o = by (oddAny xs zs ys) (eqb (length zs) (length ys))
+  where
+    by : (odd equal : Bool) → o ≡ cond odd (turnedAway Odd r zs ys) (cond equal (done r xs zs ys) (turnedAway Uneven r zs ys)) → 0 < o .number → AsFound r zs ys o
+    by true equal e h = record { receiver = ap (λ (q : Outcome). q .receiver) e; strobes = ap (λ (q : Outcome). q .strobes) e; output = ap (λ (q : Outcome). q .output) e }
+    by false true e h = absurd (omega (arith, ap (λ (q : Outcome). q .number) e))
+    by false false e h = record { receiver = ap (λ (q : Outcome). q .receiver) e; strobes = ap (λ (q : Outcome). q .strobes) e; output = ap (λ (q : Outcome). q .output) e }
+
+-- what `trr_receiver_receive` ensures says so of the record itself: a call that answers another number than 0 leaves the record x and both buffers as it found them
+pub refused-as-found : (x y : Receiver) (a : Counts) (xs zs ys zs₁ ys₁ : List Float) → Given x → Given y → outcomeOf a y zs₁ ys₁ ≡ called (receiverOf x) xs zs ys → 0 < a .number → (y ≡ x) × ((zs₁ ≡ zs) × (ys₁ ≡ ys))
+refused-as-found x y a xs zs ys zs₁ ys₁ g h e n =
+    let f = called-as-found (receiverOf x) xs zs ys (outcomeOf a y zs₁ ys₁) e n in
+    (same-record receiver-faithful h g (f .receiver), (f .strobes, f .output))

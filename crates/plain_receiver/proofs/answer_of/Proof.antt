@@ -1,0 +1,51 @@
+-- `plain_receiver::answer_of` meets its contract: by what the set-up answered. Assumes nothing.
+use mathlib.Core.Path.{sym, ap, _∙_, subst}
+use Rattle.receiver.specs.Record.{SetUpGiven}
+use Rattle.plain_receiver.specs.Receiver.{setUpOf}
+use Rattle.plain.proofs.Laws.Codes.{refused-not-done}
+use Rattle.plain.proofs.Laws.Recorded.{stays-given}
+use Rattle.plain_receiver.proofs.Laws.Receiver.{receiver-faithful}
+use borrow.Author.Needs.{needs}
+use Rattle.plain_receiver.proofs.answer_of.Statement.{statement}
+use Rattle.plain_receiver.proofs.answer_of.Tie as tie
+
+enum-known-answer : tie.Need-enum-known-answer
+enum-known-answer c = search needs
+
+record-of-requires : tie.Need-record-of-requires
+record-of-requires c κs = search needs
+
+enum-known-answer-2 : tie.Need-enum-known-answer-2
+enum-known-answer-2 c = search needs
+
+number-requires : tie.Need-number-requires
+number-requires c κs = search needs
+
+no-receiver-requires : tie.Need-no-receiver-requires
+no-receiver-requires c κs = search needs
+
+returns : tie.Need-returns
+returns c =
+    let ready = c .before .before .answer .given .1 in (
+      (λ j. record { number = 0; receiver = c .record-of .ensures j }) ∙ sym (ap setUpOf ready),
+      λ _. stays-given receiver-faithful (c .record-of .ensures) (subst SetUpGiven ready (c .before .before .before .before .pre)),
+    )
+
+returns-2 : tie.Need-returns-2
+returns-2 c =
+    let told = c .before .before .before .answer2 .given in (
+      (λ j. record { number = c .before .number .ensures j; receiver = c .no-receiver .ensures j }) ∙ sym (ap setUpOf (told .1)),
+      refused-not-done (told .0 .0) (c .before .number .ensures),
+    )
+
+pub answer-of-spec : {M : Type 1} → statement M
+answer-of-spec =
+    tie.close
+    (tie.spec
+    enum-known-answer
+    record-of-requires
+    enum-known-answer-2
+    number-requires
+    no-receiver-requires
+    returns
+    returns-2)

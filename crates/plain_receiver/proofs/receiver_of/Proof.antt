@@ -1,0 +1,17 @@
+-- `plain_receiver::receiver_of` meets its contract: each loop's state is the one that its record stands for. Assumes nothing.
+use Rattle.complex_sync.specs.Views.{stateOf}
+use borrow.Author.Needs.{needs}
+use Rattle.plain_receiver.proofs.receiver_of.Statement.{statement}
+use Rattle.plain_receiver.proofs.receiver_of.Tie as tie
+
+state-of-requires : tie.Need-state-of-requires
+state-of-requires c κs = search needs
+
+state-of-requires-2 : tie.Need-state-of-requires-2
+state-of-requires-2 c κs = search needs
+
+returns : tie.Need-returns
+returns c = λ j. record { timing = stateOf (c .before .state-of .ensures j); carrier = c .state-of2 .ensures j; count = c .before .before .before .before .args .x .count }
+
+pub receiver-of-spec : {M : Type 1} → statement M
+receiver-of-spec = tie.close (tie.spec state-of-requires state-of-requires-2 returns)

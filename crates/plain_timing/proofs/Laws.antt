@@ -1,0 +1,2 @@
+-- The laws of the timing states as plain records.
+pub mod Faithful

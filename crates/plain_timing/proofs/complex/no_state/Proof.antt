@@ -1,0 +1,16 @@
+-- `plain_timing::complex::no_state` meets its contract: every field is zero. Assumes nothing.
+use lib.Ieee.{ofBits}
+use Rattle.plain_timing.specs.Complex.{none}
+use borrow.Author.Needs.{needs}
+use Rattle.plain_timing.proofs.complex.no_state.Statement.{statement}
+use Rattle.plain_timing.proofs.complex.no_state.Tie as tie
+
+no-params-requires : tie.Need-no-params-requires
+no-params-requires c κs = search needs
+
+returns : tie.Need-returns
+unfolding ofBits
+returns c = λ j. record { params = c .no-params .ensures j; hist = none .hist; track = none .track }
+
+pub no-state-spec : {M : Type 1} → statement M
+no-state-spec = tie.close (tie.spec no-params-requires returns)
