@@ -46,6 +46,7 @@ usage: oracle play [--reference] SCRIPT   plays a script ('-' reads standard inp
        oracle runs                        writes those of the timing loop
        oracle carrier                     writes those of the carrier loop
        oracle receiver                    writes those of the receiver
+       oracle library                     writes those of the functions that the static library exports
        oracle record FOLDER               writes all recorded answers, FOLDER/NAME/stdin each
        oracle scale [--seed S] [--seconds N | --symbols N | --session K]
                                           compares the ported loops with the original's (feature 'ported')
@@ -56,11 +57,12 @@ usage: oracle play [--reference] SCRIPT   plays a script ('-' reads standard inp
 type Make = fn() -> String;
 
 /// Recorded answers: the folder that each file goes to, and what makes it.
-const RECORDED: [(&str, Make); 4] = [
+const RECORDED: [(&str, Make); 5] = [
     ("operations_replay", operations),
     ("timing_replay", runs::recorded),
     ("carrier_replay", carrier_runs::recorded),
     ("receiver_replay", receiver_runs::recorded),
+    ("library_replay", receiver_runs::exported),
 ];
 
 /// The recorded answers of all operations that are one line each.
@@ -81,6 +83,7 @@ fn main() -> ExitCode {
         ["runs"] => write_out(&runs::recorded()),
         ["carrier"] => write_out(&carrier_runs::recorded()),
         ["receiver"] => write_out(&receiver_runs::recorded()),
+        ["library"] => write_out(&receiver_runs::exported()),
         ["record", folder] => record(Path::new(folder)),
         #[cfg(feature = "ported")]
         ["scale", ref options @ ..] => match scale::scale(options) {

@@ -17,6 +17,7 @@ use crate::{Fallback, Reference};
 
 mod cases;
 mod chains;
+mod library;
 pub mod receiver;
 mod set_ups;
 mod symbols;
@@ -50,6 +51,21 @@ fn recorded_by<K: Kernel>(kernel: K) -> String {
         }
     }
     recorder.script.into_text()
+}
+
+/// The lines for the functions that the static library exports.
+pub fn exported() -> String {
+    agreed(exported_by(Fallback), &exported_by(Reference))
+}
+
+fn exported_by<K: Kernel>(kernel: K) -> String {
+    let mut random = Random::new(SEED);
+    let script = Script::default();
+    let mut recorder = Recorder { kernel, script };
+    library::record(&mut recorder, &mut random);
+    let text = recorder.script.into_text();
+    let played = |line: &&str| line.starts_with(|letter| library::LETTERS.contains(letter));
+    text.split_inclusive('\n').filter(played).collect()
 }
 
 /// Quarter turns: those of the samples, and those that the carrier's phase is on.

@@ -3,3 +3,5 @@ pub mod Entry
 pub mod Outputs
 pub mod Locals
 pub mod Lent
+pub mod Caller
+pub mod Calls

@@ -74,7 +74,7 @@ fn values(random: &mut Random, sps: f64, detector: Ted, points: CostasConstellat
 }
 
 /// A signal of the constellation that the loops can lock to.
-fn signal_of(points: CostasConstellation, sps: f64) -> Signal {
+pub fn signal_of(points: CostasConstellation, sps: f64) -> Signal {
     let order = points.psk_order().expect("a constellation on the circle");
     Signal::ordinary(order as usize, sps).carried(0.02, 0.0005)
 }

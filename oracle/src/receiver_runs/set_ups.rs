@@ -31,7 +31,7 @@ pub fn record<K: Kernel>(recorder: &mut Recorder<K>, random: &mut Random) {
 }
 
 /// A set-up of each refusal of one loop with each of the other's.
-fn both<K: Kernel>(recorder: &mut Recorder<K>, random: &mut Random) {
+pub fn both<K: Kernel>(recorder: &mut Recorder<K>, random: &mut Random) {
     for timing in one_of_each(runs::listed(Ted::MuellerMuller), |t| {
         number(&t.set_up::<f32>())
     }) {

@@ -1,0 +1,50 @@
+// Replays recorded answers of the receiver through the functions that `train_receiver` exports, by the
+// codes of bindings/c/train_receiver.h. Says how many lines were played of each kind, and how many differ
+// from what the library answers.
+//
+// The lines are those of the program `receiver_replay`, which describes them. A call has three samples and
+// two places at most, so that its input, its strobe buffer and its output are a line each. A set-up is
+// compared with those of the loops alone too. Played are the letters v, c, n, u, z, p, i, r, t, o, m, a, b,
+// d, q and e.
+mod call;
+mod counts;
+mod heard;
+mod loops;
+mod play;
+mod readings;
+mod run;
+mod slot;
+
+use libc::STDIN_FILENO;
+use play::play;
+use replay::tally;
+
+// A proved loop has to end, and nothing says that the input does. So many lines are read at most.
+const LINES: u64 = 67108864;
+
+fn main() {
+    let mut tally = [0; 14];
+    play_lines(&mut tally);
+    counts::show(&tally);
+}
+
+// Plays line after line, up to the end of the input. What is left there after the last whole line
+// counts as a line too.
+fn play_lines(tally: &mut [u64; 14]) {
+    let mut lines = heard::nothing();
+    let mut played = play::start();
+    let mut left = LINES;
+    while left > 0 {
+        let mut line = [0u8; 53];
+        let n = io::read_full(STDIN_FILENO, &mut line);
+        if n == 0 {
+            return;
+        }
+        let op = replay::read_operation(&line[..n]);
+        lines = heard::hear(lines, op);
+        played = play(played, lines, op);
+        tally::count(tally, counts::place(op.letter), &line[..n], played.agrees);
+        left -= 1;
+    }
+    tally::too_long(tally);
+}
