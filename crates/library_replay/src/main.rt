@@ -20,7 +20,7 @@ use play::play;
 use replay::tally;
 
 // A proved loop has to end, and nothing says that the input does. So many lines are read at most.
-const LINES: u64 = 67108864;
+const LINES: u64 = 0x400_0000;
 
 fn main() {
     let mut tally = [0; 14];

@@ -35,7 +35,7 @@ fn six_agree(six: Six, op: Operation) -> bool {
     words_agree(six.x, six.y, six.z, op)
 }
 
-// Whether a line agrees that changes nothing, or a reset or a phase that are recorded with zeros.
+// Whether a line agrees that is no call.
 fn agrees(slot: Slot, strobes: Six, output: Six, heard: Heard, op: Operation) -> bool {
     let letter = op.letter;
     match letter {

@@ -6,7 +6,7 @@ use std::collections::HashSet;
 use std::f64::consts::TAU;
 
 use super::receiver::{Receiver, Values, octant};
-use super::{CONSTELLATIONS, Turns, recorded};
+use super::{CONSTELLATIONS, Turns, exported, recorded};
 use crate::bits::SENTINEL;
 use crate::kernels::costas::CostasConstellation;
 use crate::kernels::symbol_sync::Ted;
@@ -209,4 +209,22 @@ fn every_symbol_number_is_met() {
         .iter()
         .flat_map(|&(points, top)| (0..top).map(move |n| (points, n)));
     assert_eq!(met, all.collect());
+}
+
+#[test]
+fn the_lines_for_the_library_are_short_and_have_every_code_and_number() {
+    let lines: Vec<Line> = check_width(exported).lines().map(fields).collect();
+    let set_ups = lines.iter().filter(|line| "nu".contains(line.0));
+    let (refused, accepted): (Vec<&Line>, Vec<&Line>) = set_ups.partition(|l| number_of(l) > 0);
+    let numbers: HashSet<u64> = refused.into_iter().map(number_of).collect();
+    assert_eq!(numbers, (1..7).collect());
+    let codes: HashSet<u64> = accepted.iter().map(|line| line.3 % 16).collect();
+    assert_eq!(codes, (0..6).collect());
+    let runs: Vec<&Line> = lines.iter().filter(|line| line.0 == 'r').collect();
+    assert!(runs.iter().all(|run| {
+        let [input, strobes, output] = lengths(run);
+        input <= 6 && strobes < 6 && output < 6
+    }));
+    let answers: HashSet<u64> = runs.iter().map(|run| run.3).collect();
+    assert_eq!(answers, [0, 7, 8].into());
 }
