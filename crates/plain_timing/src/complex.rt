@@ -2,11 +2,11 @@
 use crate::params::TimingParams;
 use crate::params::params_of;
 use crate::params::params_record;
-use plain::Counts;
-use plain::counts_of;
 use complex_sync::Hist;
 use complex_sync::SymbolSyncState;
 use complex_sync::Track;
+use plain::Counts;
+use plain::counts_of;
 use timing::Clock;
 use values::C32;
 ghost use mathlib.Core.Path.{_≡_};

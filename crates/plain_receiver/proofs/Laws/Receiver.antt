@@ -8,7 +8,6 @@ use lib.Dec.{eqb}
 use lib.ListN.{length}
 use lib.Ieee.{Float}
 use Rattle.values.specs.declared.error.Refusal.the-variants.{Uneven, Odd}
-use Rattle.timing.specs.Run as run
 use Rattle.complex_sync.specs.Views.{sync}
 use Rattle.complex_sync.specs.Views as complex
 use Rattle.receiver.specs.declared.record.Receiver as declaredReceiver
