@@ -1,12 +1,12 @@
 // A call on the three samples of a line.
 use crate::call::call;
-use plain::Counts;
 use plain_receiver::Receiver;
 use replay::Operation;
 use replay::f32_of;
 use replay::high;
 use replay::low;
 use replay::word;
+use values::Counts;
 ghost use mathlib.Core.Path.{_≡_};
 ghost use Prim.Native.Nat.{_≤_};
 ghost use lib.ListN.{length};

@@ -7,7 +7,7 @@ use Rattle.values.specs.Refusal.{numberOf}
 use Rattle.timing.specs.declared.params.Ted.the-variants.{Gardner, MuellerMuller}
 use Rattle.carrier.specs.declared.constellation.CostasConstellation.the-variants.{Bpsk, Qpsk, Psk8}
 use Rattle.plain.specs.Codes.{detectorOf, detectorCode, constellationOf, constellationCode}
-use Rattle.plain.specs.Counts.{countsOf}
+use Rattle.values.specs.Counts.{countsOf}
 
 pub record Header : Type 0 where
   -- TRR_GARDNER and TRR_MUELLER_MUELLER, as they come in and as they go out

@@ -1,4 +1,3 @@
 pub mod Codes
-pub mod Counts
 pub mod Header
 pub mod Faithful

@@ -1,13 +1,9 @@
-// What goes to programs in C and Rust as plain numbers: the codes that stand for the enums, and an
-// answer as its number and counts. bindings/c/train_receiver.h has a name for each code and number;
-// specs/Header.antt says which is which. specs/Faithful.antt says what it is for a plain record to stand
+// What goes to programs in C and Rust as plain numbers: the codes that stand for the enums.
+// bindings/c/train_receiver.h has a name for each code and number; specs/Header.antt says which is which. specs/Faithful.antt says what it is for a plain record to stand
 // for a state.
 mod codes;
-mod counts;
 
 pub use codes::constellation;
 pub use codes::constellation_code;
 pub use codes::detector;
 pub use codes::detector_code;
-pub use counts::Counts;
-pub use counts::counts_of;

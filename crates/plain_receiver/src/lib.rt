@@ -1,13 +1,13 @@
 // The receiver as a plain record: both loops' records and a symbol count. What comes in as a record is
 // turned into the receiver, and what goes out into a record again. `crates/train_receiver` exports it.
-use plain::Counts;
-use plain::counts_of;
 use plain::detector;
 use plain_carrier::Carrier;
 use plain_timing::TimingValues;
 use plain_timing::complex;
 use plain_timing::complex::ComplexTiming;
 use receiver::SetUp;
+use values::Counts;
+use values::counts_of;
 ghost use mathlib.Core.Path.{_≡_};
 ghost use Rattle.receiver.specs.Record.{SetUpGiven};
 ghost use Rattle.receiver.specs.Call.{called};

@@ -8,7 +8,7 @@ use Rattle.values.specs.Refusal.{numberOf}
 use Rattle.values.specs.Samples.{silence}
 use Rattle.timing.specs.Run.{Sync, Opening, opened, refused, Outcome}
 use Rattle.complex_sync.specs.Views.{hist, track}
-use Rattle.plain.specs.declared.counts.Counts.{Counts}
+use Rattle.values.specs.declared.counts.Counts.{Counts}
 use Rattle.plain_timing.specs.declared.complex.ComplexTiming.{ComplexTiming}
 use Rattle.plain_timing.specs.declared.complex.ComplexSetUp.{ComplexSetUp}
 use Rattle.plain_timing.specs.Params.{paramsOf, paramsRecord, noParams}

@@ -24,11 +24,11 @@ callOn r xs = called r xs places places
 
 -- its number, counts and receiver, and whether its symbols were written
 abbrev pub calledOf : Outcome → Bool → Called
-calledOf o w = record { number = o .number; consumed = o .consumed; produced = o .produced; receiver = o .receiver; written = w }
+calledOf o w = record { counts = record { number = o .number; consumed = o .consumed; produced = o .produced }; receiver = o .receiver; written = w }
 
 -- what a block comes to with its last call
 abbrev pub endedBy : Called → Received
-endedBy z = record { number = z .number; receiver = z .receiver; written = z .written }
+endedBy z = record { number = z .counts .number; receiver = z .receiver; written = z .written }
 
 -- nothing is produced, or all is consumed
 abbrev pub final : List Float → Outcome → Bool

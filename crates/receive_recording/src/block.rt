@@ -1,7 +1,7 @@
 // A block of the recording, received call by call.
 use crate::report;
 use receiver::Receiver;
-use values::Answer;
+use values::Counts;
 ghost use mathlib.Core.Path.{_≡_};
 ghost use lib.Dec.{T};
 ghost use lib.ListN.{length};
@@ -11,12 +11,9 @@ ghost use Rattle.receive_recording.specs.Block.{callOn, calledOf, endedB
 // How many f32 are lent for the symbols of a call: two for each of 256.
 const PLACES: usize = 512;
 
-// A call: its number, which is 0 where it is done, its counts and the receiver after it; and whether
-// its symbols could be written.
+// A call: its number and counts, and the receiver after it; and whether its symbols could be written.
 pub struct Called {
-    pub number: u32,
-    pub consumed: usize,
-    pub produced: usize,
+    pub counts: Counts,
     pub receiver: Receiver,
     pub written: bool,
 }
@@ -40,21 +37,11 @@ fn call(r: Receiver, input: &[f32]) -> Called
     let ran = receiver::run(r, input, &mut strobes, &mut output);
     let after = ran.receiver;
     let answer = ran.answer;
-    match answer {
-        Answer::Done(p) => Called {
-            number: 0,
-            consumed: p.consumed,
-            produced: p.produced,
-            receiver: after,
-            written: report::symbols(r, &output, p.produced),
-        },
-        Answer::Refused(why) => Called {
-            number: why.number(),
-            consumed: 0,
-            produced: 0,
-            receiver: after,
-            written: true,
-        },
+    let counts = values::counts_of(answer);
+    Called {
+        counts: counts,
+        receiver: after,
+        written: report::symbols(r, &output, counts.produced),
     }
 }
 
@@ -64,7 +51,7 @@ fn ended_by(last: Called) -> Received
 {
     let receiver = last.receiver;
     Received {
-        number: last.number,
+        number: last.counts.number,
         receiver: receiver,
         written: last.written,
     }
@@ -84,11 +71,11 @@ pub(crate) fn receive(r: Receiver, input: &[f32]) -> Received
     while left > 0 {
         let called = call(receiver, &input[at..]);
         let whole = (input.len() - at) / 2;
-        if !called.written || called.produced == 0 || called.consumed >= whole {
+        if !called.written || called.counts.produced == 0 || called.counts.consumed >= whole {
             return ended_by(called);
         }
         receiver = called.receiver;
-        at += 2 * called.consumed;
+        at += 2 * called.counts.consumed;
         left -= 1;
     }
     Received {

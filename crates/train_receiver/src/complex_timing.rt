@@ -1,5 +1,4 @@
 // Symbol timing recovery of complex samples, real part first in slices of f32.
-use plain::Counts;
 use plain::detector;
 use plain_timing::TimingReadings;
 use plain_timing::TimingValues;
@@ -9,6 +8,7 @@ use plain_timing::complex::answer_of;
 use plain_timing::complex::record_of;
 use plain_timing::complex::run;
 use plain_timing::complex::state_of;
+use values::Counts;
 ghost use mathlib.Core.Path.{_≡_};
 ghost use Rattle.timing.specs.Sample.{complex as complexOps};
 ghost use Rattle.timing.specs.Setup.{tuned};

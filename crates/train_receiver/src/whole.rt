@@ -2,7 +2,6 @@
 use crate::carrier_loop::CarrierReadings;
 use crate::carrier_loop::trr_carrier_readings;
 use crate::complex_timing::trr_complex_readings;
-use plain::Counts;
 use plain_receiver::Receiver;
 use plain_receiver::ReceiverSetUp;
 use plain_receiver::answer_of;
@@ -14,6 +13,7 @@ use plain_timing::TimingReadings;
 use plain_timing::TimingValues;
 use receiver::CarrierValues;
 use values::C32;
+use values::Counts;
 ghost use mathlib.Core.Path.{_≡_};
 ghost use Rattle.receiver.specs.Record.{unnamed, opened, restarted, phaseSet};
 ghost use Rattle.receiver.specs.Call.{called};

@@ -1,5 +1,6 @@
 pub mod Refusal
 pub mod Answer
+pub mod Counts
 pub mod Samples
 pub mod Buffers
 pub mod Calls

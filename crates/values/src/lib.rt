@@ -1,8 +1,11 @@
 // A complex sample, the counts of a call and the refusals, from types.rs and timing.rs.
+mod counts;
 mod error;
 mod progress;
 mod sample;
 
+pub use counts::Counts;
+pub use counts::counts_of;
 pub use error::Refusal;
 pub use progress::Answer;
 pub use progress::Progress;

@@ -13,7 +13,7 @@ use Rattle.complex_sync.specs.Views as complex
 use Rattle.receiver.specs.declared.record.Receiver as declaredReceiver
 use Rattle.receiver.specs.Record as receiver
 use Rattle.receiver.specs.Call.{Outcome, turnedAway, oddAny, done, called}
-use Rattle.plain.specs.declared.counts.Counts.{Counts}
+use Rattle.values.specs.declared.counts.Counts.{Counts}
 use Rattle.plain_receiver.specs.declared.Receiver.{Receiver}
 use Rattle.plain.specs.Faithful.{Faithful}
 use Rattle.plain_receiver.specs.Receiver.{receiverOf, recordOf, outcomeOf, Given}

@@ -64,32 +64,32 @@ module _ {xs : List Float} {r₀ r : Receiver} {at left : ℕ} (u : Underway xs 
     half : (length xs - at) / 2 ≡ length (drop at xs) / 2
     half = ap (λ (n : ℕ). n / 2) (sym (length-drop at xs))
 
-    produced : h .produced ≡ o .produced
-    produced = ap (λ (z : Called). z .produced) same
+    produced : h .counts .produced ≡ o .produced
+    produced = ap (λ (z : Called). z .counts .produced) same
 
-    consumed : h .consumed ≡ o .consumed
-    consumed = ap (λ (z : Called). z .consumed) same
+    consumed : h .counts .consumed ≡ o .consumed
+    consumed = ap (λ (z : Called). z .counts .consumed) same
 
     -- nothing is produced
-    pub ends-silent : h .produced ≡ 0 → endedBy h ≡ received (length xs) r₀ xs
+    pub ends-silent : h .counts .produced ≡ 0 → endedBy h ≡ received (length xs) r₀ xs
     ends-silent z = ap endedBy same ∙ by (ap (λ (b : Bool). b || leb (length (drop at xs) / 2) (o .consumed)) (eq-eqb (o .produced) 0 (sym produced ∙ z)))
 
-    module _ (some : h .produced ≡ 0 → ⊥) where
+    module _ (some : h .counts .produced ≡ 0 → ⊥) where
       by-consumed : {b : Bool} → leb (length (drop at xs) / 2) (o .consumed) ≡ b → final (drop at xs) o ≡ b
       by-consumed t = (λ j. ne-eqb (o .produced) 0 (λ z. some (produced ∙ z)) j || t j)
 
       -- all is consumed
-      pub ends-whole : (length xs - at) / 2 ≤ h .consumed → endedBy h ≡ received (length xs) r₀ xs
+      pub ends-whole : (length xs - at) / 2 ≤ h .counts .consumed → endedBy h ≡ received (length xs) r₀ xs
       ends-whole z = ap endedBy same ∙ by (by-consumed (le-leb (length (drop at xs) / 2) (o .consumed) (let a = half in let b = consumed in omega arith)))
 
       -- the next call takes what is left
-      pub goes-on : h .consumed < (length xs - at) / 2 → Given (h .receiver) → Underway xs r₀ (h .receiver) (at + 2 * h .consumed) (left - 1)
+      pub goes-on : h .counts .consumed < (length xs - at) / 2 → Given (h .receiver) → Underway xs r₀ (h .receiver) (at + 2 * h .counts .consumed) (left - 1)
       goes-on z g =
           record {
             within = let a = u .within in omega arith;
             given = g;
             shows =
-                (λ j. received (left - 1) (same j .receiver) (drop (at + 2 * same j .consumed) xs))
+                (λ j. received (left - 1) (same j .receiver) (drop (at + 2 * same j .counts .consumed) xs))
                 ∙ ap (received (left - 1) (o .receiver)) (sym (drop-drop (2 * o .consumed) at xs))
                 ∙ by (by-consumed (lt-leb (length (drop at xs) / 2) (o .consumed) (let a = half in let b = consumed in omega arith)));
           }

@@ -9,8 +9,8 @@ use Rattle.lent.proofs.Laws.Caller.{Caller, function}
 use Rattle.lent.proofs.Laws.Calls.{caller-meets}
 use Rattle.plain_receiver.proofs.Receiver as state
 use Rattle.plain_receiver.proofs.Receiver.Laws as state-laws
-use Rattle.plain.proofs.counts.Counts as answer
-use Rattle.plain.proofs.counts.Counts.Laws as answer-laws
+use Rattle.values.proofs.counts.Counts as answer
+use Rattle.values.proofs.counts.Counts.Laws as answer-laws
 use Rattle.plain_receiver.proofs.ReceiverRan as ran
 use Rattle.train_receiver.proofs.trr_receiver_receive.Symbol as receive
 use Rattle.train_receiver.proofs.trr_receiver_receive.Met as receive-met

@@ -1,10 +1,9 @@
--- `receive_recording::block::call` meets its contract: by what the run answered. Assumes nothing.
-use mathlib.Core.Path.{sym, ap, _∙_}
-use mathlib.Core.Bool.{true}
-use mathlib.Core.List.{[]}
+-- `receive_recording::block::call` meets its contract: its number and counts are those of the run's answer. Assumes nothing.
+use mathlib.Core.Path.{ap, _∙_}
 use lib.Ieee.{ofBits}
-use Rattle.values.specs.declared.progress.Answer.{Answer}
-use Rattle.receiver.specs.Call.{Outcome, outcomeOf}
+use Rattle.values.specs.declared.counts.Counts.{Counts}
+use Rattle.receiver.specs.Call.{Outcome}
+use Rattle.receive_recording.specs.declared.block.Called.{Called}
 use Rattle.receive_recording.specs.Block.{calledOf}
 use borrow.Author.Needs.{needs}
 use Rattle.receive_recording.proofs.block.call.Statement.{statement}
@@ -19,8 +18,8 @@ slice-aggregate-run-2 c = search needs
 run-requires : tie.Need-run-requires
 run-requires c κs = search needs
 
-enum-known-answer : tie.Need-enum-known-answer
-enum-known-answer c = search needs
+counts-of-requires : tie.Need-counts-of-requires
+counts-of-requires c κs = search needs
 
 slice-aggregate-symbols : tie.Need-slice-aggregate-symbols
 slice-aggregate-symbols c = search needs
@@ -28,28 +27,13 @@ slice-aggregate-symbols c = search needs
 symbols-requires : tie.Need-symbols-requires
 symbols-requires c κs = search needs
 
-enum-known-answer-2 : tie.Need-enum-known-answer-2
-enum-known-answer-2 c = search needs
-
-number-requires : tie.Need-number-requires
-number-requires c κs = search needs
-
 returns : tie.Need-returns
 unfolding ofBits
 returns c =
-    let run = c .before .before .before .before .before .before .before .before .run in
+    let run = c .before .before .before .before .before .before .run in
     let put = c .symbols .result in
-    (ap (λ (a : Answer). calledOf (outcomeOf a (run .result .receiver) [] []) put) (sym (c .before .before .before .answer .given .1)) ∙ ap (λ (o : Outcome). calledOf o put) (run .ensures .0), run .ensures .1)
-
-returns-2 : tie.Need-returns-2
-unfolding ofBits
-returns-2 c =
-    let run = c .before .before .before .before .before .before .before .run in (
-      (λ j. record { number = c .number .ensures j; consumed = 0; produced = 0; receiver = run .result .receiver; written = true })
-          ∙ ap (λ (a : Answer). calledOf (outcomeOf a (run .result .receiver) [] []) true) (sym (c .before .before .answer2 .given .1))
-          ∙ ap (λ (o : Outcome). calledOf o true) (run .ensures .0),
-      run .ensures .1,
-    )
+    let with : Counts → Called = λ n. record { counts = n; receiver = run .result .receiver; written = put } in
+    (ap with (c .before .before .counts-of .ensures) ∙ ap (λ (o : Outcome). calledOf o put) (run .ensures .0), run .ensures .1)
 
 pub call-spec : {M : Type 1} → statement M
 call-spec =
@@ -58,10 +42,7 @@ call-spec =
     slice-aggregate-run
     slice-aggregate-run-2
     run-requires
-    enum-known-answer
+    counts-of-requires
     slice-aggregate-symbols
     symbols-requires
-    enum-known-answer-2
-    number-requires
-    returns
-    returns-2)
+    returns)

@@ -68,7 +68,7 @@ mul-at c =
     let called = c .before .before .before .before .before .before .before .before .call .result in
     let n = start .good .1 .0 in
     let u = turn .inv .within in
-    let less = leb-false ((length (start .args .input .now) - turn .at) / 2) (called .consumed) (c .before .before .if3 .left) in
+    let less = leb-false ((length (start .args .input .now) - turn .at) / 2) (called .counts .consumed) (c .before .before .if3 .left) in
     omega arith
 
 add-at : tie.Need-add-at Inv-loop μ-loop
@@ -78,7 +78,7 @@ add-at c =
     let called = c .before .before .before .before .before .before .before .before .call .result in
     let n = start .good .1 .0 in
     let u = turn .inv .within in
-    let less = leb-false ((length (start .args .input .now) - turn .at) / 2) (called .consumed) (c .before .before .if3 .left) in
+    let less = leb-false ((length (start .args .input .now) - turn .at) / 2) (called .counts .consumed) (c .before .before .if3 .left) in
     omega arith
 
 sub-left : tie.Need-sub-left Inv-loop μ-loop

@@ -7,8 +7,8 @@ use Rattle.lent.proofs.Laws.Entry.{Entry, writes-back, function}
 use Rattle.lent.proofs.Laws.Lent.{entry-meets}
 use Rattle.plain_timing.proofs.complex.ComplexTiming as state
 use Rattle.plain_timing.proofs.complex.ComplexTiming.Laws as state-laws
-use Rattle.plain.proofs.counts.Counts as answer
-use Rattle.plain.proofs.counts.Counts.Laws as answer-laws
+use Rattle.values.proofs.counts.Counts as answer
+use Rattle.values.proofs.counts.Counts.Laws as answer-laws
 use Rattle.plain_timing.proofs.complex.ComplexRan as ran
 use Rattle.plain_timing.proofs.complex.run.Symbol as run
 use Rattle.plain_timing.proofs.complex.run.Met as run-met

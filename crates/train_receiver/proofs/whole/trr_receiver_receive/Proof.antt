@@ -7,8 +7,8 @@ use Rattle.lent.proofs.Laws.Entry.{Entry, writes-back, function}
 use Rattle.lent.proofs.Laws.Lent.{entry-meets}
 use Rattle.plain_receiver.proofs.Receiver as state
 use Rattle.plain_receiver.proofs.Receiver.Laws as state-laws
-use Rattle.plain.proofs.counts.Counts as answer
-use Rattle.plain.proofs.counts.Counts.Laws as answer-laws
+use Rattle.values.proofs.counts.Counts as answer
+use Rattle.values.proofs.counts.Counts.Laws as answer-laws
 use Rattle.plain_receiver.proofs.ReceiverRan as ran
 use Rattle.plain_receiver.proofs.run.Symbol as run
 use Rattle.plain_receiver.proofs.run.Met as run-met

@@ -1,9 +1,9 @@
-// The answer of a call as its number and its counts.
-use values::Answer;
+// The answer of a call as its number and its counts: one shape from the loops to the programs.
+use crate::progress::Answer;
 ghost use mathlib.Core.Path.{_≡_};
-ghost use Rattle.plain.specs.Counts.{countsOf};
+ghost use Rattle.values.specs.Counts.{countsOf};
 
-// What a call answers: document 01's number, 0 where it is done, and the two counts.
+// What a call answers: its number, 0 where it is done, and the two counts.
 #[repr(C)]
 pub struct Counts {
     pub number: u32,

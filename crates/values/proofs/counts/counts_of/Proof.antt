@@ -1,9 +1,9 @@
--- `plain::counts::counts_of` meets its contract: by what the answer is. Assumes nothing.
+-- `values::counts_of` meets its contract: by what the answer is. Assumes nothing.
 use mathlib.Core.Path.{sym, ap, _∙_}
-use Rattle.plain.specs.Counts.{countsOf}
+use Rattle.values.specs.Counts.{countsOf}
 use borrow.Author.Needs.{needs}
-use Rattle.plain.proofs.counts.counts_of.Statement.{statement}
-use Rattle.plain.proofs.counts.counts_of.Tie as tie
+use Rattle.values.proofs.counts.counts_of.Statement.{statement}
+use Rattle.values.proofs.counts.counts_of.Tie as tie
 
 enum-known-a : tie.Need-enum-known-a
 enum-known-a c = search needs

@@ -1,7 +1,0 @@
--- An answer as its number and counts. Definitions only.
-use Rattle.values.specs.declared.progress.Answer.{Answer}
-use Rattle.values.specs.Answer.{number, consumed, produced}
-use Rattle.plain.specs.declared.counts.Counts.{Counts}
-
-abbrev pub countsOf : Answer → Counts
-countsOf a = record { number = number a; consumed = consumed a; produced = produced a }
