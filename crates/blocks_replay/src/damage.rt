@@ -1,11 +1,7 @@
 // A recording with damaged samples.
-ghost use mathlib.Core.Path.{_≡_};
-ghost use Rattle.blocks_replay.specs.Damage.{replacement, damagedAt, damagedFrom};
 
 // What takes the place of an f32 that is damaged.
-fn damaged(kind: usize) -> f32
-    ensures { λ r. ⌜ r ≡ replacement kind ⌝ }
-{
+fn damaged(kind: usize) -> f32 {
     match kind {
         // NaN.
         0 => replay::f32_of(0x7fc00000),
@@ -23,15 +19,11 @@ fn damaged(kind: usize) -> f32
 
 // The f32 number i of the recording, x before. One in 97 is damaged: now a real part, now an imaginary
 // one.
-fn damaged_at(i: usize, x: f32) -> f32
-    ensures { λ r. ⌜ r ≡ damagedAt i x ⌝ }
-{
+fn damaged_at(i: usize, x: f32) -> f32 {
     if i % 97 == 96 { damaged(i / 97 % 6) } else { x }
 }
 
-pub(crate) fn damage(samples: &mut [f32])
-    ensures { λ _. ⌜ now (samples .exit) ≡ damagedFrom 0 (now (samples .entry)) ⌝ }
-{
+pub(crate) fn damage(samples: &mut [f32]) {
     let mut i = 0;
     while i < samples.len() {
         samples[i] = damaged_at(i, samples[i]);

@@ -5,25 +5,38 @@
 // The recording has 4,000 complex f32 samples, little-endian, real part first. Both detectors and all
 // constellations receive it, as recorded and with parts of its samples damaged.
 mod calls;
-mod carrier_fields;
 mod compare;
 mod cuts;
 mod damage;
-mod floats;
 mod report;
 mod set_ups;
 mod tally;
-mod tests;
-mod timing_fields;
 
 use libc::STDIN_FILENO;
 use tally::Tally;
-ghost use mathlib.Core.Path.{_≡_};
-ghost use Rattle.blocks_replay.specs.Compare.{tallied, totalOf};
-ghost use Rattle.blocks_replay.specs.SetUps.{setUpOf};
 
 // How many bytes a recording has.
 const BYTES: usize = 32000;
+
+// Compares the cuts of a recording under a set-up, and writes the line of it.
+fn show(code: u64, input: &[f32], name: &[u8]) -> Tally {
+    report::heading(code, name);
+    let tally = compare::compare_cuts(set_ups::set_up(code), input);
+    report::line(tally);
+    tally
+}
+
+// Every set-up receives both recordings.
+fn compare_all(recorded: &[f32], damaged: &[f32]) -> Tally {
+    let mut total = tally::start(0, 0);
+    let mut code = 0;
+    while code < set_ups::SET_UPS {
+        total = tally::added(total, show(code, recorded, b"as recorded"));
+        total = tally::added(total, show(code, damaged, b"damaged"));
+        code += 1;
+    }
+    total
+}
 
 fn main() {
     let mut bytes = [0u8; 32008];
@@ -37,28 +50,4 @@ fn main() {
     let mut damaged = recorded;
     damage::damage(&mut damaged);
     report::total(compare_all(&recorded, &damaged));
-}
-
-// Every set-up receives both recordings.
-fn compare_all(recorded: &[f32], damaged: &[f32]) -> Tally
-    ensures { λ r. ⌜ r ≡ totalOf 6 (now (recorded .entry)) (now (damaged .entry)) ⌝ }
-{
-    let mut total = tally::nothing();
-    let mut code = 0;
-    while code < set_ups::SET_UPS {
-        total = tally::added(total, show(code, recorded, b"as recorded"));
-        total = tally::added(total, show(code, damaged, b"damaged"));
-        code += 1;
-    }
-    total
-}
-
-// Compares the cuts of a recording under a set-up, and writes the line of it.
-fn show(code: u64, input: &[f32], name: &[u8]) -> Tally
-    ensures { λ r. ⌜ r ≡ tallied (setUpOf code) (now (input .entry)) ⌝ }
-{
-    report::heading(code, name);
-    let tally = compare::compare_cuts(set_ups::set_up(code), input);
-    report::line(tally);
-    tally
 }

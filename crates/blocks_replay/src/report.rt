@@ -28,8 +28,11 @@ pub(crate) fn heading(code: u64, name: &[u8]) {
     write(b": ");
 }
 
-// Names a cut that differs.
-pub(crate) fn differs(cut: Cut) {
+// Names a cut, if it differs.
+pub(crate) fn cut(cut: Cut, agrees: bool) {
+    if agrees {
+        return;
+    }
     write(b"blocks of ");
     number(cut.block as u64);
     write(b" with ");

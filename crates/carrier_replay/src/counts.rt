@@ -20,7 +20,7 @@ pub(crate) fn place(letter: u8) -> usize {
     }
 }
 
-fn show_calls(tally: &[u64; 14]) {
+fn show_calls(tally: &[u64; 16]) {
     show_at(tally, 0, b"set_up");
     show_at(tally, 1, b"reset");
     show_at(tally, 2, b"set_phase");
@@ -29,7 +29,7 @@ fn show_calls(tally: &[u64; 14]) {
     show_at(tally, 5, b"output");
 }
 
-fn show_state(tally: &[u64; 14]) {
+fn show_state(tally: &[u64; 16]) {
     show_at(tally, 6, b"values");
     show_at(tally, 7, b"gains");
     show_at(tally, 8, b"oscillator");
@@ -37,7 +37,7 @@ fn show_state(tally: &[u64; 14]) {
 }
 
 // Writes the counts.
-pub(crate) fn show(tally: &[u64; 14]) {
+pub(crate) fn show(tally: &[u64; 16]) {
     show_calls(tally);
     show_state(tally);
     tally::show_end(tally);

@@ -20,32 +20,45 @@
 //   s  phase, frequency as the f32 that it is, the reading of it
 //   l  lock level, locked, constellation
 mod counts;
-mod fields;
-mod play;
-mod slot;
 mod state;
 
+use carrier::CostasConstellation;
+use carrier::CostasState;
+use carrier::SetUp;
 use libc::STDIN_FILENO;
-use play::play_line;
+use replay::LINES;
+use replay::buffers;
 use replay::tally;
-use slot::Slot;
+ghost use Rattle.carrier.specs.State.{Given};
 
-// A proved loop has to end, and nothing says that the input does. So many lines are read at most.
-const LINES: u64 = 67108864;
-
-fn main() {
-    let mut tally = [0; 14];
-    play_lines(&mut tally);
-    counts::show(&tally);
+// Plays a line, and counts it.
+fn play_line(
+    s: CostasState,
+    line: &[u8],
+    values: &mut [u64; 5],
+    input: &mut [f32; 192],
+    output: &mut [f32; 192],
+    tally: &mut [u64; 16],
+) -> CostasState
+    requires { ⌜ Given s ⌝ }
+    ensures { λ r. ⌜ Given r ⌝ }
+{
+    let op = replay::read_operation(line);
+    let mut agrees = buffers::play(op, values, input, output);
+    let after = state::play(s, op, values, input, output, &mut agrees);
+    tally::count_line(tally, counts::place(op.letter), line, agrees);
+    after
 }
 
 // Plays line after line, up to the end of the input. What is left there after the last whole line
 // counts as a line too.
-fn play_lines(tally: &mut [u64; 14]) {
+fn play_lines(first: CostasState, tally: &mut [u64; 16])
+    requires { ⌜ Given first ⌝ }
+{
     let mut values = [0u64; 5];
     let mut input = [0.0f32; 192];
     let mut output = [0.0f32; 192];
-    let mut slot = Slot::Empty;
+    let mut s = first;
     let mut left = LINES;
     while left > 0 {
         let mut line = [0u8; 53];
@@ -53,15 +66,18 @@ fn play_lines(tally: &mut [u64; 14]) {
         if n == 0 {
             return;
         }
-        slot = play_line(
-            slot,
-            &line[..n],
-            &mut values,
-            &mut input,
-            &mut output,
-            tally,
-        );
+        s = play_line(s, &line[..n], &mut values, &mut input, &mut output, tally);
         left -= 1;
     }
     tally::too_long(tally);
+}
+
+// Some state is there before the first line sets up its own.
+fn main() {
+    let mut tally = [0; 16];
+    match carrier::set_up(CostasConstellation::Bpsk, 0.01, 0.7, 0.1) {
+        SetUp::Ready(s) => play_lines(s, &mut tally),
+        SetUp::Refused(_) => {}
+    }
+    counts::show(&tally);
 }

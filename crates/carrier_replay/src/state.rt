@@ -1,10 +1,48 @@
 // Playing a line on a state.
-use crate::fields::fields_agree;
 use carrier::CostasState;
 use carrier::Reply;
+use carrier::SetUp;
+use replay::HIGH;
 use replay::Operation;
 use replay::words_agree;
-ghost use Rattle.carrier.specs.State.{Given};
+use replay_states::carrier_agrees;
+use replay_states::constellation_of;
+ghost use Rattle.carrier.specs.State.{Given, SetUpGiven};
+
+// The state after a set-up. The line agrees if it is refused with the recorded number, or accepted where
+// that is 0. A refused one leaves the state that was there.
+fn opened(s: CostasState, answer: SetUp, op: Operation, agrees: &mut bool) -> CostasState
+    requires { ⌜ Given s × SetUpGiven answer ⌝ }
+    ensures { λ r. ⌜ Given r ⌝ }
+{
+    match answer {
+        SetUp::Ready(fresh) => {
+            *agrees = words_agree(op.x, 0, 0, op);
+            fresh
+        }
+        SetUp::Refused(n) => {
+            *agrees = words_agree(op.x, 0, n.number() as u64, op);
+            s
+        }
+    }
+}
+
+// Sets up anew, unless the line names no constellation.
+fn set_up(s: CostasState, values: &[u64; 5], op: Operation, agrees: &mut bool) -> CostasState
+    requires { ⌜ Given s ⌝ }
+    ensures { λ r. ⌜ Given r ⌝ }
+{
+    if op.x > 2 {
+        return s;
+    }
+    let answer = carrier::set_up(
+        constellation_of(op.x),
+        replay::f64_of(values[0]),
+        replay::f64_of(values[1]),
+        replay::f64_of(values[2]),
+    );
+    opened(s, answer, op, agrees)
+}
 
 // The number that a run answers, 0 if it is not refused.
 fn number(answer: Reply) -> u64 {
@@ -25,8 +63,8 @@ fn run(
     requires { ⌜ Given s ⌝ }
     ensures { λ r. ⌜ Given r ⌝ }
 {
-    let n = (op.x % 4294967296) as usize;
-    let places = (op.x / 4294967296) as usize;
+    let n = (op.x % HIGH) as usize;
+    let places = (op.x / HIGH) as usize;
     if n > input.len() {
         return s;
     }
@@ -43,7 +81,7 @@ fn set_phase(s: CostasState, op: Operation, agrees: &mut bool) -> CostasState
     requires { ⌜ Given s ⌝ }
     ensures { λ r. ⌜ Given r ⌝ }
 {
-    let phase = op.x % 4294967296;
+    let phase = op.x % HIGH;
     *agrees = words_agree(phase, 0, 0, op);
     carrier::set_phase(s, phase as u32)
 }
@@ -56,10 +94,22 @@ fn set_frequency(s: CostasState, op: Operation, agrees: &mut bool) -> CostasStat
     carrier::set_frequency(s, replay::f64_of(op.x))
 }
 
-// Resets, sets, runs, or compares fields, unless the line agrees already.
+// The row of the state that a letter names, or one that there is not.
+fn row(letter: u8) -> usize {
+    match letter {
+        b'a' => 0,
+        b'k' => 1,
+        b's' => 2,
+        b'l' => 3,
+        _ => 4,
+    }
+}
+
+// Sets up, resets, sets, runs, or compares fields, unless the line agrees already.
 pub(crate) fn play(
     s: CostasState,
     op: Operation,
+    values: &[u64; 5],
     input: &[f32; 192],
     output: &mut [f32; 192],
     agrees: &mut bool,
@@ -68,18 +118,15 @@ pub(crate) fn play(
     ensures { λ r. ⌜ Given r ⌝ }
 {
     let letter = op.letter;
-    if letter == b'z' {
-        return carrier::reset(s);
+    match letter {
+        b'n' => set_up(s, values, op, agrees),
+        b'z' => carrier::reset(s),
+        b'p' => set_phase(s, op, agrees),
+        b'q' => set_frequency(s, op, agrees),
+        b'r' => run(s, op, input, output, agrees),
+        _ => {
+            *agrees = *agrees || carrier_agrees(s, row(letter), op);
+            s
+        }
     }
-    if letter == b'p' {
-        return set_phase(s, op, agrees);
-    }
-    if letter == b'q' {
-        return set_frequency(s, op, agrees);
-    }
-    if letter == b'r' {
-        return run(s, op, input, output, agrees);
-    }
-    *agrees = *agrees || fields_agree(s, op);
-    s
 }

@@ -19,7 +19,7 @@ pub(crate) fn place(letter: u8) -> usize {
 }
 
 // Writes the counts.
-pub(crate) fn show(tally: &[u64; 14]) {
+pub(crate) fn show(tally: &[u64; 16]) {
     show_at(tally, 0, b"set_up");
     show_at(tally, 1, b"reset");
     show_at(tally, 2, b"set_phase");

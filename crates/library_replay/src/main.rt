@@ -17,20 +17,18 @@ mod slot;
 
 use libc::STDIN_FILENO;
 use play::play;
+use replay::LINES;
 use replay::tally;
 
-// A proved loop has to end, and nothing says that the input does. So many lines are read at most.
-const LINES: u64 = 0x400_0000;
-
 fn main() {
-    let mut tally = [0; 14];
+    let mut tally = [0; 16];
     play_lines(&mut tally);
     counts::show(&tally);
 }
 
 // Plays line after line, up to the end of the input. What is left there after the last whole line
 // counts as a line too.
-fn play_lines(tally: &mut [u64; 14]) {
+fn play_lines(tally: &mut [u64; 16]) {
     let mut lines = heard::nothing();
     let mut played = play::start();
     let mut left = LINES;
@@ -43,7 +41,7 @@ fn play_lines(tally: &mut [u64; 14]) {
         let op = replay::read_operation(&line[..n]);
         lines = heard::hear(lines, op);
         played = play(played, lines, op);
-        tally::count(tally, counts::place(op.letter), &line[..n], played.agrees);
+        tally::count_line(tally, counts::place(op.letter), &line[..n], played.agrees);
         left -= 1;
     }
     tally::too_long(tally);

@@ -1,18 +1,9 @@
-// The tally of the lines that were played.
-ghost use Prim.Native.Nat.{_<_};
+// The tally of the lines that were played: where each kind is counted, and what is written of it.
+use replay::tally;
+use replay::tally::show_at;
 
-// The tally has fifteen places: the lines of each letter of `fnwsdlmijptu`, the malformed lines, all
-// lines and those that differ.
-const MALFORMED: usize = 12;
-
-const ANSWERS: usize = 13;
-
-const DIFFER: usize = 14;
-
-// The letter's place in the counts.
-fn place(letter: u8) -> usize
-    ensures { λ r. ⌜ r < 13 ⌝ }
-{
+// The letter's place in the tally.
+fn place(letter: u8) -> usize {
     match letter {
         b'f' => 0,
         b'n' => 1,
@@ -26,62 +17,48 @@ fn place(letter: u8) -> usize
         b'p' => 9,
         b't' => 10,
         b'u' => 11,
-        _ => 12,
+        _ => tally::MALFORMED,
     }
-}
-
-// Adds one at a place of the tally.
-fn add(tally: &mut [u64; 15], place: usize)
-    requires { ⌜ place < 15 ⌝ }
-{
-    tally[place] = std::num::wrapping_add_u64(tally[place], 1);
 }
 
 // Counts a line at its letter's place.
-pub fn agrees(tally: &mut [u64; 15], letter: u8) {
-    add(tally, place(letter));
-    add(tally, ANSWERS);
+pub fn agrees(tally: &mut [u64; 16], letter: u8) {
+    tally::count(tally, place(letter), true);
 }
 
 // Counts a line whose recorded answer is not the computed one, and shows the first 20 of them.
-pub fn differs(tally: &mut [u64; 15], letter: u8, line: &[u8], computed: u64) {
-    if tally[DIFFER] < 20 {
+pub fn differs(tally: &mut [u64; 16], letter: u8, line: &[u8], computed: u64) {
+    if tally::shows_more(tally) {
         replay::differs(line, computed);
     }
-    agrees(tally, letter);
-    add(tally, DIFFER);
+    tally::count(tally, place(letter), false);
 }
 
 // Counts a line that is not an operation as one that differs.
-pub fn malformed(tally: &mut [u64; 15], line: &[u8]) {
-    if tally[DIFFER] < 20 {
+pub fn malformed(tally: &mut [u64; 16], line: &[u8]) {
+    if tally::shows_more(tally) {
         replay::malformed(line);
     }
-    add(tally, MALFORMED);
-    add(tally, ANSWERS);
-    add(tally, DIFFER);
+    tally::count(tally, tally::MALFORMED, false);
 }
 
-// Counts input that goes on after the last block as one answer that differs.
-pub fn too_long(tally: &mut [u64; 15]) {
-    replay::malformed(b"the input is too long");
-    add(tally, DIFFER);
+fn show_numbers(tally: &[u64; 16]) {
+    show_at(tally, 0, b"floor");
+    show_at(tally, 1, b"narrow");
+    show_at(tally, 2, b"widen");
+    show_at(tally, 3, b"flush_denormal");
+    show_at(tally, 4, b"flush_denormal_f64");
+    show_at(tally, 5, b"limit_f32");
+    show_at(tally, 6, b"limit_f64");
+    show_at(tally, 7, b"is_finite_f32");
+    show_at(tally, 8, b"is_finite_f64");
 }
 
 // Writes the counts.
-pub fn show(tally: &[u64; 15]) {
-    replay::count(b"floor", tally[0]);
-    replay::count(b"narrow", tally[1]);
-    replay::count(b"widen", tally[2]);
-    replay::count(b"flush_denormal", tally[3]);
-    replay::count(b"flush_denormal_f64", tally[4]);
-    replay::count(b"limit_f32", tally[5]);
-    replay::count(b"limit_f64", tally[6]);
-    replay::count(b"is_finite_f32", tally[7]);
-    replay::count(b"is_finite_f64", tally[8]);
-    replay::count(b"interp_f32_pair", tally[9]);
-    replay::count(b"phase_step_f32", tally[10]);
-    replay::count(b"phase_step", tally[11]);
-    replay::count(b"malformed", tally[MALFORMED]);
-    replay::summary(tally[ANSWERS], tally[DIFFER]);
+pub fn show(tally: &[u64; 16]) {
+    show_numbers(tally);
+    show_at(tally, 9, b"interp_f32_pair");
+    show_at(tally, 10, b"phase_step_f32");
+    show_at(tally, 11, b"phase_step");
+    tally::show_end(tally);
 }

@@ -11,22 +11,25 @@ mod judge;
 
 use judge::Verdict;
 use libc::STDIN_FILENO;
+use replay::LINES;
 use replay::Reading;
+use replay::tally;
 
-// A proved loop has to end, and nothing says that the input does. So many lines are read at most.
-const LINES: u64 = 67108864;
-
-// The table is taken once, and lent from here on.
-fn main() {
-    let table = tables::cos_f32_table();
-    let mut tally = [0; 15];
-    play_lines(&table, &mut tally);
-    counts::show(&tally);
+fn play_line(table: &[f32; 4097], line: &[u8], tally: &mut [u64; 16]) {
+    let Reading::Asks(op) = replay::read_line(line) else {
+        counts::malformed(tally, line);
+        return;
+    };
+    match judge::judge(table, op) {
+        Verdict::Agrees => counts::agrees(tally, op.letter),
+        Verdict::Differs(computed) => counts::differs(tally, op.letter, line, computed),
+        Verdict::Malformed => counts::malformed(tally, line),
+    }
 }
 
 // Plays line after line, up to the end of the input. What is left there after the last whole line
 // counts as a line too.
-fn play_lines(table: &[f32; 4097], tally: &mut [u64; 15]) {
+fn play_lines(table: &[f32; 4097], tally: &mut [u64; 16]) {
     let mut left = LINES;
     while left > 0 {
         let mut line = [0u8; 53];
@@ -37,17 +40,13 @@ fn play_lines(table: &[f32; 4097], tally: &mut [u64; 15]) {
         play_line(table, &line[..n], tally);
         left -= 1;
     }
-    counts::too_long(tally);
+    tally::too_long(tally);
 }
 
-fn play_line(table: &[f32; 4097], line: &[u8], tally: &mut [u64; 15]) {
-    let Reading::Asks(op) = replay::read_line(line) else {
-        counts::malformed(tally, line);
-        return;
-    };
-    match judge::judge(table, op) {
-        Verdict::Agrees => counts::agrees(tally, op.letter),
-        Verdict::Differs(computed) => counts::differs(tally, op.letter, line, computed),
-        Verdict::Malformed => counts::malformed(tally, line),
-    }
+// The table is taken once, and lent from here on.
+fn main() {
+    let table = tables::cos_f32_table();
+    let mut tally = [0; 16];
+    play_lines(&table, &mut tally);
+    counts::show(&tally);
 }

@@ -23,14 +23,14 @@ fn place(letter: u8) -> usize {
 }
 
 // Counts a line, and a run once more for the second receiver.
-pub(crate) fn count(tally: &mut [u64; 14], line: &[u8], letter: u8, agrees: bool, turned: bool) {
-    tally::count(tally, place(letter), line, agrees);
+pub(crate) fn count(tally: &mut [u64; 16], line: &[u8], letter: u8, agrees: bool, turned: bool) {
+    tally::count_line(tally, place(letter), line, agrees);
     if letter == b'r' {
-        tally::count(tally, TURNED, line, turned);
+        tally::count_line(tally, TURNED, line, turned);
     }
 }
 
-fn show_calls(tally: &[u64; 14]) {
+fn show_calls(tally: &[u64; 16]) {
     show_at(tally, 0, b"set_up");
     show_at(tally, 1, b"reset");
     show_at(tally, 2, b"set_phase");
@@ -42,7 +42,7 @@ fn show_calls(tally: &[u64; 14]) {
 }
 
 // Writes the counts.
-pub(crate) fn show(tally: &[u64; 14]) {
+pub(crate) fn show(tally: &[u64; 16]) {
     show_calls(tally);
     show_at(tally, 8, b"state");
     show_at(tally, 9, b"reading");

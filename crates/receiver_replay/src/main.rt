@@ -33,39 +33,75 @@
 //   q  symbol count, instant, pace: the receiver's readings
 //   e  frequency, lock level, phase + 2^32 locked + 2^33 constellation: its other readings
 mod counts;
-mod fields;
-mod pair;
-mod play;
-mod record;
-mod slot;
+mod first;
+mod second;
+mod set_up;
 mod symbols;
 mod tests;
 mod turned;
 mod workspace;
 
 use libc::STDIN_FILENO;
-use pair::no_receivers;
-use play::play_line;
+use receiver::Receiver;
+use receiver::SetUp;
+use replay::LINES;
 use replay::tally;
+use turned::Turns;
+use turned::next_turns;
+ghost use Rattle.receiver.specs.Record.{Given};
 
-// A proved loop has to end, and nothing says that the input does. So many lines are read at most.
-const LINES: u64 = 67108864;
+// The receiver of the lines, the turned one beside it, and by how much that is turned.
+struct Pair {
+    first: Receiver,
+    second: Receiver,
+    turns: Turns,
+}
 
-fn main() {
-    let mut tally = [0; 14];
-    play_lines(&mut tally);
-    counts::show(&tally);
+// Plays a line on both receivers, and counts it.
+fn play_line(
+    pair: Pair,
+    line: &[u8],
+    timing: &mut [u64; 5],
+    carrier: &mut [u64; 5],
+    input: &mut [f32; 192],
+    strobes: &mut [f32; 192],
+    output: &mut [f32; 192],
+    tally: &mut [u64; 16],
+) -> Pair
+    requires { ⌜ Given (pair .first) × Given (pair .second) ⌝ }
+    ensures { λ r. ⌜ Given (r .first) × Given (r .second) ⌝ }
+{
+    let op = replay::read_operation(line);
+    let mut agrees = workspace::play(op, timing, carrier, input, strobes, output);
+    let r = pair.first;
+    let first = first::play(r, op, timing, carrier, input, strobes, output, &mut agrees);
+    let turns = next_turns(pair.turns, op);
+    let mut turned = false;
+    let r = pair.second;
+    let second = second::play(first, r, op, turns, input, strobes, output, &mut turned);
+    counts::count(tally, line, op.letter, agrees, turned);
+    Pair {
+        first: first,
+        second: second,
+        turns: turns,
+    }
 }
 
 // Plays line after line, up to the end of the input. What is left there after the last whole line
 // counts as a line too.
-fn play_lines(tally: &mut [u64; 14]) {
+fn play_lines(r: Receiver, tally: &mut [u64; 16])
+    requires { ⌜ Given r ⌝ }
+{
     let mut timing = [0u64; 5];
     let mut carrier = [0u64; 5];
     let mut input = [0.0f32; 192];
     let mut strobes = [0.0f32; 192];
     let mut output = [0.0f32; 192];
-    let mut pair = no_receivers();
+    let mut pair = Pair {
+        first: r,
+        second: r,
+        turns: turned::none(),
+    };
     let mut left = LINES;
     while left > 0 {
         let mut line = [0u8; 53];
@@ -73,18 +109,27 @@ fn play_lines(tally: &mut [u64; 14]) {
         if n == 0 {
             return;
         }
-        let op = replay::read_operation(&line[..n]);
         pair = play_line(
             pair,
-            op,
+            &line[..n],
             &mut timing,
             &mut carrier,
             &mut input,
             &mut strobes,
             &mut output,
+            tally,
         );
-        counts::count(tally, &line[..n], op.letter, pair.agrees, pair.turned);
         left -= 1;
     }
     tally::too_long(tally);
+}
+
+// Some receiver is there before the first line sets up its own.
+fn main() {
+    let mut tally = [0; 16];
+    match set_up::some() {
+        SetUp::Ready(r) => play_lines(r, &mut tally),
+        SetUp::Refused(_) => {}
+    }
+    counts::show(&tally);
 }

@@ -1,7 +1,6 @@
 // Turned recordings: the input of the second receiver, and how the two receivers compare after a run.
-use crate::pair::Turns;
-use crate::slot::Slot;
 use receiver::Receiver;
+use replay::HIGH;
 use replay::Operation;
 use replay::alike_f32;
 use replay::alike_f64;
@@ -13,7 +12,32 @@ use values::store_sample;
 const SAMPLES: usize = 96;
 
 // A quarter turn of a phase.
-const QUARTER: u64 = 1073741824;
+const QUARTER: u64 = 0x4000_0000;
+
+// Quarter turns: those of the second receiver's samples, and those that its phase is on.
+pub struct Turns {
+    pub samples: u64,
+    pub phase: u64,
+}
+
+pub(crate) fn none() -> Turns {
+    Turns {
+        samples: 0,
+        phase: 0,
+    }
+}
+
+// The turns from this line on: a set-up names them.
+pub(crate) fn next_turns(turns: Turns, op: Operation) -> Turns {
+    let letter = op.letter;
+    match letter {
+        b'n' | b'u' => Turns {
+            samples: op.answer / 256 % 4,
+            phase: op.answer / 1024 % 4,
+        },
+        _ => turns,
+    }
+}
 
 // The sample after so many quarter turns, each of which makes (re, im) into (-im, re).
 fn turned(z: C32, turns: u64) -> C32 {
@@ -36,7 +60,7 @@ fn turned(z: C32, turns: u64) -> C32 {
 
 // The phase after so many quarter turns.
 pub(crate) fn phase_on(phase: u64, turns: u64) -> u64 {
-    (phase % 4294967296 + turns % 4 * QUARTER) % 4294967296
+    (phase % HIGH + turns % 4 * QUARTER) % HIGH
 }
 
 // Turns all samples of a buffer.
@@ -76,14 +100,14 @@ pub(crate) fn buffers_turned(
     other_output: &[f32; 192],
     turns: Turns,
 ) -> bool {
-    let produced = op.y / 4294967296;
+    let produced = op.y / HIGH;
     let less = (turns.samples % 4 + 4 - turns.phase % 4) % 4;
     samples_turned(strobes, other_strobes, produced, turns.samples)
         && samples_turned(output, other_output, produced, less)
 }
 
 // Whether the records agree but for the phases, which are turns apart.
-fn records_turned(a: Receiver, b: Receiver, turns: u64) -> bool {
+pub(crate) fn records_turned(a: Receiver, b: Receiver, turns: u64) -> bool {
     a.count() == b.count()
         && alike_f64(a.next_strobe(), b.next_strobe())
         && alike_f64(a.sps_estimate(), b.sps_estimate())
@@ -91,15 +115,4 @@ fn records_turned(a: Receiver, b: Receiver, turns: u64) -> bool {
         && alike_f32(a.lock_level(), b.lock_level())
         && a.locked() == b.locked()
         && b.phase() as u64 == phase_on(a.phase() as u64, turns)
-}
-
-// Whether both receivers are there, and their records agree.
-pub(crate) fn slots_turned(first: Slot, second: Slot, turns: Turns) -> bool {
-    match first {
-        Slot::Empty => false,
-        Slot::Ready(a) => match second {
-            Slot::Empty => false,
-            Slot::Ready(b) => records_turned(a, b, turns.phase),
-        },
-    }
 }

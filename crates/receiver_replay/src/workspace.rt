@@ -1,5 +1,6 @@
 // The buffers of one receiver, and the words of its next set-up: `timing` goes with the input and the
 // output, `carrier` with the strobe buffer. A line is played on each as `replay::buffers` does it.
+use crate::symbols::symbol_agrees;
 use replay::Operation;
 use replay::buffers;
 
@@ -29,5 +30,6 @@ pub(crate) fn play(
     output: &mut [f32; 192],
 ) -> bool {
     let agrees = buffers::play(op, timing, input, output);
-    buffers::play(strobe_line(op), carrier, input, strobes) || agrees
+    let found = buffers::play(strobe_line(op), carrier, input, strobes);
+    symbol_agrees(op, found || agrees)
 }

@@ -1,4 +1,4 @@
--- The tally of recorded calls that were played. Definitions only.
+-- The tally of recorded answers that were played. Definitions only.
 use Prim.Native.Nat.{ℕ, _+_, _^_, _%_}
 use mathlib.Core.Bool.{Bool, cond}
 use mathlib.Core.List.{List}
@@ -7,11 +7,11 @@ use lib.ListN.{getD, set}
 
 -- the malformed lines' where there is none
 abbrev pub placeOf : ℕ → ℕ
-placeOf p = cond (ltb p 14) p 10
+placeOf p = cond (ltb p 16) p 12
 
 abbrev pub oneMore : List ℕ → ℕ → List ℕ
 oneMore l p = set l p ((getD l p 0 + 1) % 2 ^ 64)
 
--- a line at its place, among all lines (12) and, if it differs, among those (13)
+-- a line at its place, among all lines (14) and, if it differs, among those (15)
 abbrev pub counted : List ℕ → ℕ → Bool → List ℕ
-counted l p agrees = let all = oneMore (oneMore l (placeOf p)) 12 in cond agrees all (oneMore all 13)
+counted l p agrees = let all = oneMore (oneMore l (placeOf p)) 14 in cond agrees all (oneMore all 15)

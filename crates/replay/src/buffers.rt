@@ -18,18 +18,20 @@ use patterns::f32_of;
 ghost use mathlib.Core.Path.{_≡_};
 ghost use Prim.Native.Nat.{_<_};
 ghost use lib.ListN.{getD};
-ghost use Rattle.replay.specs.Buffers.{withPair, withSix, pairAt, sameSix, withValues, placeOf, withSixMore, fromZero, filled, played};
+ghost use Rattle.replay.specs.Buffers.{pairAt, sameSix, placeOf, agreed};
 
 const INPUT: usize = 3;
 
 const OUTPUT: usize = 4;
+
+// Where the last six f32 of a buffer stand.
+const LAST_SIX: u64 = 186;
 
 // The bits of the f32 that fills the output before a run: one that no ordinary signal makes.
 pub const FILLING: u32 = 0xdeadbeef;
 
 fn put(input: &mut [f32; 192], k: usize, word: u64)
     requires { ⌜ k < 191 ⌝ }
-    ensures { λ _. ⌜ now (input .exit) ≡ withPair (now (input .entry)) k word ⌝ }
 {
     input[k] = high(word);
     input[k + 1] = low(word);
@@ -37,7 +39,6 @@ fn put(input: &mut [f32; 192], k: usize, word: u64)
 
 fn put_six(input: &mut [f32; 192], k: usize, op: Operation)
     requires { ⌜ k < 187 ⌝ }
-    ensures { λ _. ⌜ now (input .exit) ≡ withSix (now (input .entry)) k op ⌝ }
 {
     put(input, k, op.x);
     put(input, k + 2, op.y);
@@ -67,30 +68,24 @@ fn six_agree(output: &[f32; 192], k: usize, op: Operation) -> bool
 fn next_six(values: &mut [u64; 5], count: usize) -> usize
     requires { ⌜ count < 5 ⌝ }
     ensures place { λ r. ⌜ r ≡ placeOf (getD (now (values .entry)) count 0) ⌝ }
-    ensures values { λ _. ⌜ now (values .exit) ≡ withSixMore (now (values .entry)) count ⌝ }
     ensures room { λ r. ⌜ r < 187 ⌝ }
 {
     let at = values[count];
-    if at > 186 {
-        return 186;
+    if at > LAST_SIX {
+        return LAST_SIX as usize;
     }
     values[count] = at + 6;
     at as usize
 }
 
-fn next_set_up(values: &mut [u64; 5], op: Operation)
-    ensures { λ _. ⌜ now (values .exit) ≡ withValues (now (values .entry)) op ⌝ }
-{
+fn next_set_up(values: &mut [u64; 5], op: Operation) {
     values[0] = op.x;
     values[1] = op.y;
     values[2] = op.answer;
 }
 
 // Makes ready for a run, and for the input of the one after it.
-fn next_run(values: &mut [u64; 5], output: &mut [f32; 192])
-    ensures values { λ _. ⌜ now (values .exit) ≡ fromZero (now (values .entry)) ⌝ }
-    ensures output { λ _. ⌜ now (output .exit) ≡ filled ⌝ }
-{
+fn next_run(values: &mut [u64; 5], output: &mut [f32; 192]) {
     values[INPUT] = 0;
     values[OUTPUT] = 0;
     *output = [f32_of(FILLING); 192];
@@ -103,7 +98,7 @@ pub fn play(
     input: &mut [f32; 192],
     output: &mut [f32; 192],
 ) -> bool
-    ensures { λ r. ⌜ played op (now (values .entry)) (now (input .entry)) (now (output .entry)) ≡ record { agrees = r; values = now (values .exit); input = now (input .exit); output = now (output .exit) } ⌝ }
+    ensures { λ r. ⌜ r ≡ agreed op (now (values .entry)) (now (output .entry)) ⌝ }
 {
     let letter = op.letter;
     match letter {

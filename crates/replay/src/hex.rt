@@ -7,6 +7,24 @@ pub enum Word {
     Broken,
 }
 
+// The value of a digit, and 16 for a byte that is none.
+fn digit(b: u8) -> u64
+    ensures { λ r. ⌜ r ≡ valueOf b ⌝ }
+{
+    let n = b as u64;
+    if n < 0x30 {
+        16
+    } else if n < 0x3a {
+        n - 0x30
+    } else if n < 0x61 {
+        16
+    } else if n < 0x67 {
+        n - 0x57
+    } else {
+        16
+    }
+}
+
 // The number that text spells, or `Broken` if it is not 16 digits.
 pub fn read_word(text: &[u8]) -> Word
     ensures { λ r. ⌜ r ≡ wordOf (now (text .entry)) ⌝ }
@@ -25,22 +43,4 @@ pub fn read_word(text: &[u8]) -> Word
         i += 1;
     }
     Word::Value(value)
-}
-
-// The value of a digit, and 16 for a byte that is none.
-fn digit(b: u8) -> u64
-    ensures { λ r. ⌜ r ≡ valueOf b ⌝ }
-{
-    let n = b as u64;
-    if n < 48 {
-        16
-    } else if n < 58 {
-        n - 48
-    } else if n < 97 {
-        16
-    } else if n < 103 {
-        n - 87
-    } else {
-        16
-    }
 }

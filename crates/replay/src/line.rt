@@ -17,36 +17,6 @@ pub enum Reading {
     Malformed,
 }
 
-// Takes a line of 53 bytes apart.
-pub fn read_line(line: &[u8]) -> Reading
-    ensures { λ r. ⌜ r ≡ readingOf (now (line .entry)) ⌝ }
-{
-    if line.len() == 53 {
-        if is_spaced(line[1], line[18], line[35], line[52]) {
-            let x = read_word(&line[2..18]);
-            let y = read_word(&line[19..35]);
-            let answer = read_word(&line[36..52]);
-            return asks(line[0], x, y, answer);
-        }
-    }
-    Reading::Malformed
-}
-
-// What a line asks. No letter stands for a malformed line, with which nothing agrees.
-pub fn read_operation(line: &[u8]) -> Operation
-    ensures { λ r. ⌜ r ≡ asked (readingOf (now (line .entry))) ⌝ }
-{
-    match read_line(line) {
-        Reading::Asks(op) => op,
-        Reading::Malformed => Operation {
-            letter: 0,
-            x: 0,
-            y: 0,
-            answer: 0,
-        },
-    }
-}
-
 // Whether three bytes are spaces and the last is a line end.
 fn is_spaced(a: u8, b: u8, c: u8, end: u8) -> bool
     ensures { λ r. ⌜ r ≡ spaced a b c end ⌝ }
@@ -78,6 +48,36 @@ fn asks(letter: u8, x: Word, y: Word, answer: Word) -> Reading
                     answer: answer,
                 }),
             },
+        },
+    }
+}
+
+// Takes a line of 53 bytes apart.
+pub fn read_line(line: &[u8]) -> Reading
+    ensures { λ r. ⌜ r ≡ readingOf (now (line .entry)) ⌝ }
+{
+    if line.len() == 53 {
+        if is_spaced(line[1], line[18], line[35], line[52]) {
+            let x = read_word(&line[2..18]);
+            let y = read_word(&line[19..35]);
+            let answer = read_word(&line[36..52]);
+            return asks(line[0], x, y, answer);
+        }
+    }
+    Reading::Malformed
+}
+
+// What a line asks. No letter stands for a malformed line, with which nothing agrees.
+pub fn read_operation(line: &[u8]) -> Operation
+    ensures { λ r. ⌜ r ≡ asked (readingOf (now (line .entry))) ⌝ }
+{
+    match read_line(line) {
+        Reading::Asks(op) => op,
+        Reading::Malformed => Operation {
+            letter: 0,
+            x: 0,
+            y: 0,
+            answer: 0,
         },
     }
 }

@@ -9,18 +9,21 @@ ghost use Prim.Native.Nat.{_+_, _*_, _^_, _/_, _%_};
 ghost use lib.Ieee.{binary32, binary64, ofBits, toBits};
 ghost use Rattle.replay.specs.Line.{has};
 
+// One in the high half of a word.
+pub const HIGH: u64 = 0x1_0000_0000;
+
 // The high half of a word as an f32.
 pub fn high(word: u64) -> f32
     ensures { λ r. ⌜ r ≡ ofBits binary32 (word / 2 ^ 32) ⌝ }
 {
-    f32_of((word / 4294967296) as u32)
+    f32_of((word / HIGH) as u32)
 }
 
 // The low half.
 pub fn low(word: u64) -> f32
     ensures { λ r. ⌜ r ≡ ofBits binary32 (word % 2 ^ 32) ⌝ }
 {
-    f32_of((word % 4294967296) as u32)
+    f32_of((word % HIGH) as u32)
 }
 
 // The word of two f32.
@@ -29,7 +32,7 @@ pub fn word(a: f32, b: f32) -> u64
 {
     let high = f32_bits(a) as u64;
     let low = f32_bits(b) as u64;
-    high * 4294967296 + low
+    high * HIGH + low
 }
 
 // Whether a line has these three words.

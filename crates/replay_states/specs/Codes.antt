@@ -1,7 +1,5 @@
 -- The numbers of detectors and constellations in a line. Definitions only.
 use Prim.Native.Nat.{ℕ}
-use mathlib.Core.Bool.{cond}
-use lib.Dec.{eqb}
 use Rattle.timing.specs.declared.params.Ted.{Ted}
 use Rattle.timing.specs.declared.params.Ted.the-variants.{Gardner, MuellerMuller}
 use Rattle.carrier.specs.declared.constellation.CostasConstellation.{CostasConstellation}
@@ -11,13 +9,7 @@ abbrev pub codeOfDetector : Ted → ℕ
 codeOfDetector Gardner = 0
 codeOfDetector MuellerMuller = 1
 
-abbrev pub detectorOf : ℕ → Ted
-detectorOf n = cond (eqb n 0) Gardner MuellerMuller
-
 abbrev pub codeOf : CostasConstellation → ℕ
 codeOf Bpsk = 0
 codeOf Qpsk = 1
 codeOf Psk8 = 2
-
-abbrev pub constellationOf : ℕ → CostasConstellation
-constellationOf n = cond (eqb n 0) Bpsk (cond (eqb n 1) Qpsk Psk8)

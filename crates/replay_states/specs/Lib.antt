@@ -1,4 +1,3 @@
 pub mod Codes
 pub mod Answer
-pub mod Timing
-pub mod Carrier
+pub mod Words

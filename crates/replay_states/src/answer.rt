@@ -1,5 +1,6 @@
 // Comparing the answer of a timing run with a line: its two counts in the second word, its number in the
 // third.
+use replay::HIGH;
 use replay::Operation;
 use replay::words_agree;
 use values::Answer;
@@ -11,10 +12,10 @@ ghost use Rattle.replay_states.specs.Answer.{sameProgress, sameAnswer};
 pub fn progress_agrees(p: Progress, op: Operation) -> bool
     ensures { λ r. ⌜ r ≡ sameProgress p op ⌝ }
 {
-    if p.consumed as u64 != op.y % 4294967296 {
+    if p.consumed as u64 != op.y % HIGH {
         return false;
     }
-    if p.produced as u64 != op.y / 4294967296 {
+    if p.produced as u64 != op.y / HIGH {
         return false;
     }
     op.answer == 0

@@ -1,9 +1,9 @@
 // Playing a line on a state of complex samples.
-use complex_sync;
 use complex_sync::SymbolSyncState;
+use replay::HIGH;
 use replay::Operation;
 use replay_states::answer_agrees;
-use replay_states::complex_agrees;
+use replay_states::timing_agrees;
 ghost use Rattle.timing.specs.Run.{Given};
 ghost use Rattle.complex_sync.specs.Views.{sync};
 
@@ -18,15 +18,15 @@ fn run(
     requires { ⌜ Given (sync s) ⌝ }
     ensures { λ r. ⌜ Given (sync r) ⌝ }
 {
-    let n = (op.x % 4294967296) as usize;
-    let places = (op.x / 4294967296) as usize;
+    let n = (op.x % HIGH) as usize;
+    let places = (op.x / HIGH) as usize;
     if n > input.len() {
         return s;
     }
     if places > output.len() {
         return s;
     }
-    let ran = complex::run(s, &input[..n], &mut output[..places]);
+    let ran = complex_sync::run(s, &input[..n], &mut output[..places]);
     let answer = ran.answer;
     *agrees = answer_agrees(answer, op);
     ran.state
@@ -44,12 +44,12 @@ pub(crate) fn play(
     ensures { λ r. ⌜ Given (sync r) ⌝ }
 {
     let letter = op.letter;
-    if letter == b'z' {
-        return complex::reset(s);
+    match letter {
+        b'z' => complex_sync::reset(s),
+        b'r' => run(s, op, input, output, agrees),
+        _ => {
+            *agrees = *agrees || timing_agrees(s, op);
+            s
+        }
     }
-    if letter == b'r' {
-        return run(s, op, input, output, agrees);
-    }
-    *agrees = *agrees || complex_agrees(s, op);
-    s
 }

@@ -20,14 +20,14 @@ pub(crate) fn place(letter: u8) -> usize {
     }
 }
 
-fn show_calls(tally: &[u64; 14]) {
+fn show_calls(tally: &[u64; 16]) {
     show_at(tally, 0, b"set_up");
     show_at(tally, 1, b"reset");
     show_at(tally, 2, b"run");
     show_at(tally, 3, b"output");
 }
 
-fn show_state(tally: &[u64; 14]) {
+fn show_state(tally: &[u64; 16]) {
     show_at(tally, 4, b"clock");
     show_at(tally, 5, b"history");
     show_at(tally, 6, b"previous");
@@ -35,7 +35,7 @@ fn show_state(tally: &[u64; 14]) {
 }
 
 // Writes the counts.
-pub(crate) fn show(tally: &[u64; 14]) {
+pub(crate) fn show(tally: &[u64; 16]) {
     show_calls(tally);
     show_state(tally);
     show_at(tally, 8, b"parameters");

@@ -1,6 +1,6 @@
 // Replays recorded answers of the original's timing loop, which stand on standard input: set-ups, runs
 // on real and complex samples, resets, and each field of the state after them. Says how many lines were
-// played of each kind, and how many differ from what the crate `symbol_sync` computes.
+// played of each kind, and how many differ from what the crates `real_sync` and `complex_sync` compute.
 //
 // A line has 53 bytes: a letter, then three words of 16 hexadecimal digits, each after a space, and
 // a line end. Two f32 stand in one word, the first in its high half; a real sample has zeros in the low
@@ -22,27 +22,38 @@
 //   f  integrator, middle held + 2 started, next strobe
 mod complex;
 mod counts;
-mod play;
 mod real;
 mod slot;
 
 use libc::STDIN_FILENO;
-use play::play_line;
+use replay::LINES;
+use replay::buffers;
 use replay::tally;
 use slot::Slot;
+ghost use Rattle.timing_replay.specs.Slot.{SlotGiven};
 
-// A proved loop has to end, and nothing says that the input does. So many lines are read at most.
-const LINES: u64 = 67108864;
-
-fn main() {
-    let mut tally = [0; 14];
-    play_lines(&mut tally);
-    counts::show(&tally);
+// Plays a line, and counts it.
+fn play_line(
+    slot: Slot,
+    line: &[u8],
+    values: &mut [u64; 5],
+    input: &mut [f32; 192],
+    output: &mut [f32; 192],
+    tally: &mut [u64; 16],
+) -> Slot
+    requires { ⌜ SlotGiven slot ⌝ }
+    ensures { λ r. ⌜ SlotGiven r ⌝ }
+{
+    let op = replay::read_operation(line);
+    let mut agrees = buffers::play(op, values, input, output);
+    let after = slot::play(slot, op, values, input, output, &mut agrees);
+    tally::count_line(tally, counts::place(op.letter), line, agrees);
+    after
 }
 
 // Plays line after line, up to the end of the input. What is left there after the last whole line
 // counts as a line too.
-fn play_lines(tally: &mut [u64; 14]) {
+fn play_lines(tally: &mut [u64; 16]) {
     let mut values = [0u64; 5];
     let mut input = [0.0f32; 192];
     let mut output = [0.0f32; 192];
@@ -65,4 +76,10 @@ fn play_lines(tally: &mut [u64; 14]) {
         left -= 1;
     }
     tally::too_long(tally);
+}
+
+fn main() {
+    let mut tally = [0; 16];
+    play_lines(&mut tally);
+    counts::show(&tally);
 }

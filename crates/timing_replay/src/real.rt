@@ -1,32 +1,60 @@
 // Playing a line on a state of real samples.
-use real_sync;
 use real_sync::SymbolSyncState;
+use replay::HIGH;
 use replay::Operation;
-use replay::word;
-use replay::words_agree;
-use replay_states::clock_agrees;
-use replay_states::params_agree;
+use replay::f64_bits;
+use replay::floats_agree;
 use replay_states::progress_agrees;
-use replay_states::rest_agrees;
+use replay_states::timing_agrees;
+use values::C32;
 ghost use Rattle.timing.specs.Run.{Given};
 ghost use Rattle.real_sync.specs.Views.{sync};
 
-fn samples_agree(a: f32, b: f32, c: f32, op: Operation) -> bool {
-    words_agree(word(a, 0.0), word(b, 0.0), word(c, 0.0), op)
+fn as_sample(x: f32) -> C32 {
+    C32 { re: x, im: 0.0 }
 }
 
-// Whether the fields that the letter names agree.
-fn fields_agree(s: SymbolSyncState, op: Operation) -> bool {
+// The state as one of complex samples: a line has zeros in place of imaginary parts.
+fn as_complex(s: SymbolSyncState) -> complex_sync::SymbolSyncState {
+    let p = s.params;
     let h = s.hist;
     let t = s.track;
+    let hist = complex_sync::Hist {
+        a: as_sample(h.a),
+        b: as_sample(h.b),
+        c: as_sample(h.c),
+    };
+    let clock = t.clock;
+    let track = complex_sync::Track {
+        clock: clock,
+        y_prev: as_sample(t.y_prev),
+        d_prev: as_sample(t.d_prev),
+        mid: as_sample(t.mid),
+        mid_ready: t.mid_ready,
+        started: t.started,
+    };
+    complex_sync::SymbolSyncState {
+        params: p,
+        hist: hist,
+        track: track,
+    }
+}
+
+// Whether the readings that the letter names agree.
+fn readings_agree(s: SymbolSyncState, op: Operation) -> bool {
     let letter = op.letter;
     match letter {
-        b's' => clock_agrees(t.clock, op),
-        b'h' => samples_agree(h.a, h.b, h.c, op),
-        b'y' => samples_agree(t.y_prev, t.d_prev, t.mid, op),
-        b'f' => rest_agrees(t.clock, t.mid_ready, t.started, op),
-        _ => params_agree(s.params, op),
+        b'a' => floats_agree(s.sps(), s.loop_bw(), s.damping(), op),
+        b'b' => f64_bits(s.max_deviation()) == op.x && f64_bits(s.ted_gain()) == op.y,
+        b's' => f64_bits(s.sps_estimate()) == op.answer,
+        b'f' => f64_bits(s.next_strobe()) == op.answer,
+        _ => true,
     }
+}
+
+// Whether the fields that the letter names agree, and the readings.
+fn fields_agree(s: SymbolSyncState, op: Operation) -> bool {
+    timing_agrees(as_complex(s), op) && readings_agree(s, op)
 }
 
 // Runs on as much of the buffers as the line says, and not at all if they have less.
@@ -40,15 +68,15 @@ fn run(
     requires { ⌜ Given (sync s) ⌝ }
     ensures { λ r. ⌜ Given (sync r) ⌝ }
 {
-    let n = (op.x % 4294967296) as usize;
-    let places = (op.x / 4294967296) as usize;
+    let n = (op.x % HIGH) as usize;
+    let places = (op.x / HIGH) as usize;
     if n > input.len() {
         return s;
     }
     if places > output.len() {
         return s;
     }
-    let ran = real::run(s, &input[..n], &mut output[..places]);
+    let ran = real_sync::run(s, &input[..n], &mut output[..places]);
     let progress = ran.progress;
     *agrees = progress_agrees(progress, op);
     ran.state
@@ -66,12 +94,12 @@ pub(crate) fn play(
     ensures { λ r. ⌜ Given (sync r) ⌝ }
 {
     let letter = op.letter;
-    if letter == b'z' {
-        return real::reset(s);
+    match letter {
+        b'z' => real_sync::reset(s),
+        b'r' => run(s, op, input, output, agrees),
+        _ => {
+            *agrees = *agrees || fields_agree(s, op);
+            s
+        }
     }
-    if letter == b'r' {
-        return run(s, op, input, output, agrees);
-    }
-    *agrees = *agrees || fields_agree(s, op);
-    s
 }

@@ -1,8 +1,6 @@
 // The state that the lines are played on, of either kind, and its set-up.
 use crate::complex as complex_line;
 use crate::real as real_line;
-use complex_sync;
-use real_sync;
 use replay::Operation;
 use replay_states::detector_of;
 use timing::Ted;
@@ -14,8 +12,8 @@ ghost use Rattle.timing_replay.specs.Slot.{SlotGiven};
 // The state, once a set-up was accepted.
 pub enum Slot {
     Empty,
-    Real(real::SymbolSyncState),
-    Complex(complex::SymbolSyncState),
+    Real(real_sync::SymbolSyncState),
+    Complex(complex_sync::SymbolSyncState),
 }
 
 // The six values of a set-up.
@@ -42,16 +40,16 @@ fn asked(values: &[u64; 5], op: Operation) -> SixValues {
 
 // What a set-up of real samples leaves. It agrees if it is refused with the recorded number, or
 // accepted where that is 0.
-fn opened_real(answer: real::SetUp, number: u64, agrees: &mut bool) -> Slot
+fn opened_real(answer: real_sync::SetUp, number: u64, agrees: &mut bool) -> Slot
     requires { ⌜ OpeningGiven (realSync.opening answer) ⌝ }
     ensures { λ r. ⌜ SlotGiven r ⌝ }
 {
     match answer {
-        real::SetUp::Ready(s) => {
+        real_sync::SetUp::Ready(s) => {
             *agrees = number == 0;
             Slot::Real(s)
         }
-        real::SetUp::Refused(n) => {
+        real_sync::SetUp::Refused(n) => {
             *agrees = number == n.number() as u64;
             Slot::Empty
         }
@@ -59,16 +57,16 @@ fn opened_real(answer: real::SetUp, number: u64, agrees: &mut bool) -> Slot
 }
 
 // Complex variant of opened_real.
-fn opened_complex(answer: complex::SetUp, number: u64, agrees: &mut bool) -> Slot
+fn opened_complex(answer: complex_sync::SetUp, number: u64, agrees: &mut bool) -> Slot
     requires { ⌜ OpeningGiven (complexSync.opening answer) ⌝ }
     ensures { λ r. ⌜ SlotGiven r ⌝ }
 {
     match answer {
-        complex::SetUp::Ready(s) => {
+        complex_sync::SetUp::Ready(s) => {
             *agrees = number == 0;
             Slot::Complex(s)
         }
-        complex::SetUp::Refused(n) => {
+        complex_sync::SetUp::Refused(n) => {
             *agrees = number == n.number() as u64;
             Slot::Empty
         }
@@ -83,7 +81,7 @@ fn set_up(values: &[u64; 5], op: Operation, agrees: &mut bool) -> Slot
     let ted = a.ted;
     let number = op.answer / 16;
     if op.answer % 2 == 0 {
-        let answer = real::set_up(
+        let answer = real_sync::set_up(
             a.sps,
             ted,
             a.loop_bw,
@@ -93,7 +91,7 @@ fn set_up(values: &[u64; 5], op: Operation, agrees: &mut bool) -> Slot
         );
         return opened_real(answer, number, agrees);
     }
-    let answer = complex::set_up(
+    let answer = complex_sync::set_up(
         a.sps,
         ted,
         a.loop_bw,

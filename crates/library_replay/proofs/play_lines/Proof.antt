@@ -49,11 +49,11 @@ place-requires c κs = search needs
 array-share-prefix-line-2 : tie.Need-array-share-prefix-line-2 Inv-loop μ-loop
 array-share-prefix-line-2 c = search needs
 
-slice-aggregate-count : tie.Need-slice-aggregate-count Inv-loop μ-loop
-slice-aggregate-count c = search needs
+slice-aggregate-count-line : tie.Need-slice-aggregate-count-line Inv-loop μ-loop
+slice-aggregate-count-line c = search needs
 
-count-requires : tie.Need-count-requires Inv-loop μ-loop
-count-requires c κs = search needs
+count-line-requires : tie.Need-count-line-requires Inv-loop μ-loop
+count-line-requires c κs = search needs
 
 sub-left : tie.Need-sub-left Inv-loop μ-loop
 sub-left c = search needs
@@ -89,8 +89,8 @@ play-lines-spec =
     play-requires
     place-requires
     array-share-prefix-line-2
-    slice-aggregate-count
-    count-requires
+    slice-aggregate-count-line
+    count-line-requires
     sub-left
     loop-less
     loop-again

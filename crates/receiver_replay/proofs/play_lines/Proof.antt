@@ -1,86 +1,26 @@
--- `receiver_replay::play_lines` is safe and ends. The loop's invariant: a set-up, a reset, the phase setting or a run has given each receiver. The measure is the count of lines that may still come. Assumes nothing.
+-- `receiver_replay::play_lines` is safe and ends. The loop's invariant: both receivers are given. The measure is the count of lines that may still come. Assumes nothing.
+use Rattle.receiver.specs.Record.{Given}
+use native.Mathlib.Omega.{arith}
 use borrow.Author.Needs.{needs}
-use Rattle.receiver_replay.specs.Slot.{PairGiven}
 use Rattle.receiver_replay.proofs.play_lines.Statement.{statement}
 use Rattle.receiver_replay.proofs.play_lines.Tie as tie
 
 abbrev Inv-loop : tie.InvT-loop
-Inv-loop tally₀ timing₀ carrier₀ input₀ strobes₀ output₀ pair₀ left₀ tally timing carrier input strobes output pair left = PairGiven pair
+Inv-loop tally₀ timing₀ carrier₀ input₀ strobes₀ output₀ pair₀ left₀ tally timing carrier input strobes output pair left = Given (pair .first) × Given (pair .second)
 
 abbrev μ-loop : tie.MeasureT-loop
 μ-loop tally₀ timing₀ carrier₀ input₀ strobes₀ output₀ pair₀ left₀ tally timing carrier input strobes output pair left = left
 
-no-receivers-requires : tie.Need-no-receivers-requires Inv-loop μ-loop
-no-receivers-requires c κs = search needs
-
-loop-holds : tie.Need-loop-holds Inv-loop μ-loop
-loop-holds c = search needs
-
-slice-aggregate-read-full : tie.Need-slice-aggregate-read-full Inv-loop μ-loop
-slice-aggregate-read-full c = search needs
-
-read-full-requires : tie.Need-read-full-requires Inv-loop μ-loop
-read-full-requires c κs = search needs
-
-returns : tie.Need-returns Inv-loop μ-loop
-returns c = search needs
-
-array-share-prefix-line : tie.Need-array-share-prefix-line Inv-loop μ-loop
-array-share-prefix-line c = search needs
-
-slice-aggregate-read-operation : tie.Need-slice-aggregate-read-operation Inv-loop μ-loop
-slice-aggregate-read-operation c = search needs
-
-read-operation-requires : tie.Need-read-operation-requires Inv-loop μ-loop
-read-operation-requires c κs = search needs
-
-play-line-requires : tie.Need-play-line-requires Inv-loop μ-loop
-play-line-requires c κs = search needs
-
-array-share-prefix-line-2 : tie.Need-array-share-prefix-line-2 Inv-loop μ-loop
-array-share-prefix-line-2 c = search needs
-
-slice-aggregate-count : tie.Need-slice-aggregate-count Inv-loop μ-loop
-slice-aggregate-count c = search needs
-
-count-requires : tie.Need-count-requires Inv-loop μ-loop
-count-requires c κs = search needs
-
+-- a line may still come
 sub-left : tie.Need-sub-left Inv-loop μ-loop
-sub-left c = search needs
+sub-left c = omega (arith, c .before .before .before .before .before .before .before .before .before .before .before .before .loop-test .taken)
 
 loop-less : tie.Need-loop-less Inv-loop μ-loop
-loop-less c = search needs
-
-loop-again : tie.Need-loop-again Inv-loop μ-loop
-loop-again c = search needs
-
-too-long-requires : tie.Need-too-long-requires Inv-loop μ-loop
-too-long-requires c κs = search needs
-
-returns-2 : tie.Need-returns-2 Inv-loop μ-loop
-returns-2 c = search needs
+loop-less c = omega (arith, c .before .before .before .before .before .before .before .before .before .before .before .before .loop-test .taken)
 
 pub play-lines-spec : {M : Type 1} → statement M
 play-lines-spec =
     tie.close
-    (tie.spec
-    Inv-loop
-    μ-loop
-    no-receivers-requires
-    loop-holds
-    slice-aggregate-read-full
-    read-full-requires
-    returns
-    array-share-prefix-line
-    slice-aggregate-read-operation
-    read-operation-requires
-    play-line-requires
-    array-share-prefix-line-2
-    slice-aggregate-count
-    count-requires
-    sub-left
-    loop-less
-    loop-again
-    too-long-requires
-    returns-2)
+    (tie.spec Inv-loop μ-loop (search needs) (λ c. search needs) (search needs) (search needs) (search needs)
+    (search needs) (search needs) (λ c κs. search needs) sub-left loop-less (λ c. c .play-line .ensures)
+    (search needs) (search needs))

@@ -6,14 +6,8 @@ use borrow.Author.Needs.{needs}
 use Rattle.replay.proofs.compare.same_f64.Statement.{statement}
 use Rattle.replay.proofs.compare.same_f64.Tie as tie
 
-f64-bits-requires : tie.Need-f64-bits-requires
-f64-bits-requires c κs = search needs
-
-f64-bits-requires-2 : tie.Need-f64-bits-requires-2
-f64-bits-requires-2 c κs = search needs
-
 returns : tie.Need-returns
 returns c = ap (λ (n : ℕ). eqb n (c .f64-bits2 .result)) (c .before .f64-bits .ensures) ∙ ap (eqb _) (c .f64-bits2 .ensures)
 
 pub same-f64-spec : {M : Type 1} → statement M
-same-f64-spec = tie.close (tie.spec f64-bits-requires f64-bits-requires-2 returns)
+same-f64-spec = tie.close (tie.spec (search needs) (search needs) returns)

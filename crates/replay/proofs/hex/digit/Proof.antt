@@ -4,9 +4,6 @@ use borrow.Author.Tests.{lt-ltb, le-ltb}
 use Rattle.replay.proofs.hex.digit.Statement.{statement}
 use Rattle.replay.proofs.hex.digit.Tie as tie
 
-sub-result : tie.Need-sub-result
-sub-result c = search needs
-
 returns : tie.Need-returns
 returns c = rw (lt-ltb _ 48 (c .if1 .taken))
 
@@ -25,4 +22,4 @@ returns-5 c =
     rw (le-ltb _ 48 (c .before .before .before .if1 .left), le-ltb _ 58 (c .before .before .if2 .left), le-ltb _ 97 (c .before .if3 .left), le-ltb _ 103 (c .if4 .left))
 
 pub digit-spec : {M : Type 1} → statement M
-digit-spec = tie.close (tie.spec sub-result returns returns-2 returns-3 returns-4 returns-5)
+digit-spec = tie.close (tie.spec (search needs) returns returns-2 returns-3 returns-4 returns-5)

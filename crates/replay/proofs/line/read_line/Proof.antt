@@ -14,63 +14,6 @@ use Rattle.replay.proofs.line.read_line.Tie as tie
 abbrev by : Reading → Bool → Bool → Reading
 by r long apart = cond (long && apart) r Malformed
 
-shared-slice-read-is-spaced : tie.Need-shared-slice-read-is-spaced
-shared-slice-read-is-spaced c = search needs
-
-shared-slice-read-is-spaced-2 : tie.Need-shared-slice-read-is-spaced-2
-shared-slice-read-is-spaced-2 c = search needs
-
-shared-slice-read-is-spaced-3 : tie.Need-shared-slice-read-is-spaced-3
-shared-slice-read-is-spaced-3 c = search needs
-
-shared-slice-read-is-spaced-4 : tie.Need-shared-slice-read-is-spaced-4
-shared-slice-read-is-spaced-4 c = search needs
-
-is-spaced-requires : tie.Need-is-spaced-requires
-is-spaced-requires c κs = search needs
-
-sub-read-word : tie.Need-sub-read-word
-sub-read-word c = search needs
-
-part-read-word-start : tie.Need-part-read-word-start
-part-read-word-start c = search needs
-
-part-read-word-end : tie.Need-part-read-word-end
-part-read-word-end c = search needs
-
-read-word-requires : tie.Need-read-word-requires
-read-word-requires c κs = search needs
-
-sub-read-word-2 : tie.Need-sub-read-word-2
-sub-read-word-2 c = search needs
-
-part-read-word-start-2 : tie.Need-part-read-word-start-2
-part-read-word-start-2 c = search needs
-
-part-read-word-end-2 : tie.Need-part-read-word-end-2
-part-read-word-end-2 c = search needs
-
-read-word-requires-2 : tie.Need-read-word-requires-2
-read-word-requires-2 c κs = search needs
-
-sub-read-word-3 : tie.Need-sub-read-word-3
-sub-read-word-3 c = search needs
-
-part-read-word-start-3 : tie.Need-part-read-word-start-3
-part-read-word-start-3 c = search needs
-
-part-read-word-end-3 : tie.Need-part-read-word-end-3
-part-read-word-end-3 c = search needs
-
-read-word-requires-3 : tie.Need-read-word-requires-3
-read-word-requires-3 c κs = search needs
-
-shared-slice-read-asks : tie.Need-shared-slice-read-asks
-shared-slice-read-asks c = search needs
-
-asks-requires : tie.Need-asks-requires
-asks-requires c κs = search needs
-
 returns : tie.Need-returns
 unfolding readingOf
 returns c =
@@ -93,26 +36,7 @@ returns-3 c =
 pub read-line-spec : {M : Type 1} → statement M
 read-line-spec =
     tie.close
-    (tie.spec
-    shared-slice-read-is-spaced
-    shared-slice-read-is-spaced-2
-    shared-slice-read-is-spaced-3
-    shared-slice-read-is-spaced-4
-    is-spaced-requires
-    sub-read-word
-    part-read-word-start
-    part-read-word-end
-    read-word-requires
-    sub-read-word-2
-    part-read-word-start-2
-    part-read-word-end-2
-    read-word-requires-2
-    sub-read-word-3
-    part-read-word-start-3
-    part-read-word-end-3
-    read-word-requires-3
-    shared-slice-read-asks
-    asks-requires
-    returns
-    returns-2
+    (tie.spec (search needs) (search needs) (search needs) (search needs) (search needs) (search needs)
+    (search needs) (search needs) (search needs) (search needs) (search needs) (search needs) (search needs)
+    (search needs) (search needs) (search needs) (search needs) (search needs) (search needs) returns returns-2
     returns-3)

@@ -5,15 +5,6 @@ use borrow.Author.Needs.{needs}
 use Rattle.replay.proofs.line.read_operation.Statement.{statement}
 use Rattle.replay.proofs.line.read_operation.Tie as tie
 
-read-line-requires : tie.Need-read-line-requires
-read-line-requires c κs = search needs
-
-enum-known-op : tie.Need-enum-known-op
-enum-known-op c = search needs
-
-enum-told : tie.Need-enum-told
-enum-told c = search needs
-
 returns : tie.Need-returns
 returns c = ap asked (sym (c .before .op .given .1) ∙ c .before .before .before .read-line .ensures)
 
@@ -22,4 +13,4 @@ returns-2 c = ap asked (sym (c .enum-told .given .1) ∙ c .before .before .read
 
 pub read-operation-spec : {M : Type 1} → statement M
 read-operation-spec =
-    tie.close (tie.spec read-line-requires enum-known-op enum-told returns returns-2)
+    tie.close (tie.spec (search needs) (search needs) (search needs) returns returns-2)

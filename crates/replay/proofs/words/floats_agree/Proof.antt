@@ -5,27 +5,9 @@ use borrow.Author.Needs.{needs}
 use Rattle.replay.proofs.words.floats_agree.Statement.{statement}
 use Rattle.replay.proofs.words.floats_agree.Tie as tie
 
-f64-bits-requires : tie.Need-f64-bits-requires
-f64-bits-requires c κs = search needs
-
-f64-bits-requires-2 : tie.Need-f64-bits-requires-2
-f64-bits-requires-2 c κs = search needs
-
-f64-bits-requires-3 : tie.Need-f64-bits-requires-3
-f64-bits-requires-3 c κs = search needs
-
-words-agree-requires : tie.Need-words-agree-requires
-words-agree-requires c κs = search needs
-
 returns : tie.Need-returns
 returns c = c .words-agree .ensures ∙ (λ j. has (c .before .before .before .before .args .op) (c .before .before .before .f64-bits .ensures j) (c .before .before .f64-bits2 .ensures j) (c .before .f64-bits3 .ensures j))
 
 pub floats-agree-spec : {M : Type 1} → statement M
 floats-agree-spec =
-    tie.close
-    (tie.spec
-    f64-bits-requires
-    f64-bits-requires-2
-    f64-bits-requires-3
-    words-agree-requires
-    returns)
+    tie.close (tie.spec (search needs) (search needs) (search needs) (search needs) returns)

@@ -7,24 +7,6 @@ use borrow.Author.Needs.{needs}
 use Rattle.replay_states.proofs.answer.answer_agrees.Statement.{statement}
 use Rattle.replay_states.proofs.answer.answer_agrees.Tie as tie
 
-enum-known-answer : tie.Need-enum-known-answer
-enum-known-answer c = search needs
-
-progress-agrees-requires : tie.Need-progress-agrees-requires
-progress-agrees-requires c κs = search needs
-
-enum-known-answer-2 : tie.Need-enum-known-answer-2
-enum-known-answer-2 c = search needs
-
-number-requires : tie.Need-number-requires
-number-requires c κs = search needs
-
-cast-words-agree : tie.Need-cast-words-agree
-cast-words-agree c = search needs
-
-words-agree-requires : tie.Need-words-agree-requires
-words-agree-requires c κs = search needs
-
 returns : tie.Need-returns
 returns c = c .progress-agrees .ensures ∙ sym (ap (λ (x : Answer). sameAnswer x (c .before .before .before .before .args .op)) (c .before .before .answer .given .1))
 
@@ -34,12 +16,5 @@ returns-2 c = let op = c .before .before .before .before .before .args .op in c 
 pub answer-agrees-spec : {M : Type 1} → statement M
 answer-agrees-spec =
     tie.close
-    (tie.spec
-    enum-known-answer
-    progress-agrees-requires
-    enum-known-answer-2
-    number-requires
-    cast-words-agree
-    words-agree-requires
-    returns
+    (tie.spec (search needs) (search needs) (search needs) (search needs) (search needs) (search needs) returns
     returns-2)

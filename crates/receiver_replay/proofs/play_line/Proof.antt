@@ -1,0 +1,13 @@
+-- `receiver_replay::play_line` keeps both receivers given. Assumes nothing.
+use borrow.Author.Needs.{needs}
+use Rattle.receiver_replay.proofs.play_line.Statement.{statement}
+use Rattle.receiver_replay.proofs.play_line.Tie as tie
+
+both-given : tie.Need-play-requires-3
+both-given c κs = (c .before .before .before .before .before .before .play2 .ensures, c .before .before .before .before .before .before .before .before .before .before .before .before .before .before .before .before .before .before .before .before .before .before .pre .1)
+
+pub play-line-spec : {M : Type 1} → statement M
+play-line-spec =
+    tie.close
+    (tie.spec (search needs) (search needs) (λ c κs. search needs) (search needs) both-given (search needs)
+    (λ c. search needs))
