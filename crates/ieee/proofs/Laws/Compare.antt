@@ -3,7 +3,7 @@ use mathlib.Core.Path.{_≡_, refl, sym, ap, _∙_}
 use Prim.Native.Nat.{ℕ, zero, suc, _*_, _<_}
 use native.Mathlib.Nat.{zero-mul, zero-add, add-comm, mul-pos}
 use native.Mathlib.Omega.{arith}
-use mathlib.Core.Bool.{Bool, true, false, not, _&&_, _||_, Bool·beq, cond, or-true, and-true}
+use mathlib.Core.Bool.{Bool, true, false, not, _&&_, _||_, Bool·beq, cond, or-true, and-true, Bool·not-not}
 use lib.Dec.{T, ltb, eqb, ltb→lt, lt→ltb, eqb→eq, eqb-refl, eqb·suc-zero, eqb·zero-suc}
 use lib.IntN.{ℤ, pos}
 use lib.Ieee.{Float, nan, inf, fin, up, down, below, level, neg, lt, eq, le, ne, isNan}
@@ -60,10 +60,6 @@ infs-negs true false = refl
 infs-negs false true = refl
 infs-negs false false = refl
 
-inf-fin : (s : Bool) → not (not s) ≡ s
-inf-fin true = refl
-inf-fin false = refl
-
 pub lt-negs : (x y : Float) → lt (neg x) (neg y) ≡ lt y x
 unfolding lt neg
 lt-negs nan nan = refl
@@ -73,7 +69,7 @@ lt-negs (inf s) nan = refl
 lt-negs (inf s) (inf t) = infs-negs s t
 lt-negs (inf s) (fin t n d) = refl
 lt-negs (fin s m e) nan = refl
-lt-negs (fin s m e) (inf t) = inf-fin t
+lt-negs (fin s m e) (inf t) = Bool·not-not t
 lt-negs (fin s m e) (fin t n d) = below-negs s t (m * up e * down d) (n * up d * down e)
 
 lt-right : (x y : Float) → lt x (plain y) ≡ lt x y

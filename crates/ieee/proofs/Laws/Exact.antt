@@ -106,7 +106,7 @@ same-value (fin t m e) s a c b d C h v = (v .0, eq-of-mul-eq-mul-right c C (m * 
     cross u w g = mul-right-comm u d c ∙ ap (λ (z : ℕ). z * d) g ∙ mul-right-comm a w d ∙ ap (λ (z : ℕ). z * w) h ∙ mul-right-comm b c w
 
 -- another fraction of the same value
-pub exact-same : (f : Format) (a c b d : ℕ) → 0 < c → 0 < d → a * d ≡ b * c → Exact f a c → Exact f b d
+exact-same : (f : Format) (a c b d : ℕ) → 0 < c → 0 < d → a * d ≡ b * c → Exact f a c → Exact f b d
 exact-same f a c b d C D h g s = same-value (round f s b d) s a c b d C h (subst (λ (x : Float). HasValue x s a c) (round-same f s a c b d C D h) (g s))
 
 -- ---- a value that the format holds is its own rounding, as data

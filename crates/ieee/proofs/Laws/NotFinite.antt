@@ -14,15 +14,16 @@ use Rattle.ieee.proofs.Laws.Order.{cross→le, le-trans-float, neg-fini
 use Rattle.ieee.proofs.Laws.Mono.{add-mono, sub-mono, mul-mono, mul-nonneg}
 
 -- ---- what is finite comes of finite values
-infs : (b s : Bool) → T (finite (cond b (inf s) nan)) → ⊥
-infs true s h = h
-infs false s h = h
+-- an infinity or a NaN, as the sum of two infinities is
+pub inf-or-nan : (b s : Bool) → T (finite (cond b (inf s) nan)) → ⊥
+inf-or-nan true s h = h
+inf-or-nan false s h = h
 
 first-term : (f : Format) (x y : Float) → T (finite (add f x y)) → T (finite x)
 unfolding add
 first-term f nan y h = h
 first-term f (inf s) nan h = h
-first-term f (inf s) (inf t) h = infs (Bool·beq s t) s h
+first-term f (inf s) (inf t) h = inf-or-nan (Bool·beq s t) s h
 first-term f (inf s) (fin t n d) h = h
 first-term f (fin s m e) y h = tt
 
