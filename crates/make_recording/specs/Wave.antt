@@ -1,8 +1,8 @@
 -- The samples between two symbols: a raised-cosine transition, turned by the carrier. Definitions only.
 use Prim.Native.Nat.{ℕ, _+_, _*_, _%_, _^_}
 use mathlib.Core.List.{List, [], _∷_}
-use lib.Ieee.{Float, binary32, add, sub, mul}
-use Rattle.ieee.specs.Notation.{half₀}
+use lib.Ieee.{Float}
+use Rattle.ieee.specs.Notation.{_⊕_, _⊖_, _⊗_, half₀}
 use Rattle.values.specs.declared.sample.C32.{C32}
 use Rattle.values.specs.Samples.{parts}
 use Rattle.mix.specs.declared.oscillator.Pair.{Pair}
@@ -12,18 +12,18 @@ use Rattle.make_recording.specs.Source.{phaseStep}
 
 -- from a to b, where the cosine has come down to c: a + (b - a) × (1/2 - c/2)
 abbrev pub onTheWay : Float → Float → Float → Float
-onTheWay a b c = add binary32 a (mul binary32 (sub binary32 b a) (sub binary32 half₀ (mul binary32 half₀ c)))
+onTheWay a b c = a ⊕ (b ⊖ a) ⊗ (half₀ ⊖ half₀ ⊗ c)
 
 -- x turned on by the angle of a cosine and a sine
 abbrev pub turnedBy : C32 → Pair → C32
-turnedBy x q = record { re = sub binary32 (mul binary32 (x .re) (q .c)) (mul binary32 (x .im) (q .s)); im = add binary32 (mul binary32 (x .re) (q .s)) (mul binary32 (x .im) (q .c)) }
+turnedBy x q = record { re = x .re ⊗ q .c ⊖ x .im ⊗ q .s; im = x .re ⊗ q .s ⊕ x .im ⊗ q .c }
 
 -- sample j of the four that lead to the next symbol; the first stands 0.3 of a sample behind the last symbol's instant, and each next one an eighth of a turn on
-abbrev pub sampleOf : List Float → Source → ℕ → C32
-sampleOf table s j =
+abbrev pub sampleAt : List Float → Source → ℕ → C32
+sampleAt table s j =
     let way = pairAt table (161061274 + j * 2 ^ 29) .c in
     turnedBy (record { re = onTheWay (s .from .re) (s .to .re) way; im = onTheWay (s .from .im) (s .to .im) way })
     (pairAt table ((s .phase + j * phaseStep) % 2 ^ 32))
 
 abbrev pub fourOf : List Float → Source → List Float
-fourOf table s = parts (sampleOf table s 0 ∷ sampleOf table s 1 ∷ sampleOf table s 2 ∷ sampleOf table s 3 ∷ [])
+fourOf table s = parts (sampleAt table s 0 ∷ sampleAt table s 1 ∷ sampleAt table s 2 ∷ sampleAt table s 3 ∷ [])

@@ -5,7 +5,7 @@ use mix::Pair;
 use values::C32;
 ghost use mathlib.Core.Path.{_≡_};
 ghost use Prim.Native.Nat.{_<_};
-ghost use Rattle.make_recording.specs.Wave.{onTheWay, turnedBy, sampleOf, fourOf};
+ghost use Rattle.make_recording.specs.Wave.{onTheWay, turnedBy, sampleAt, fourOf};
 
 // From symbol to symbol the transition's cosine goes half a turn, an eighth of a turn a sample, in
 // units of 2^-32 turn. The first sample stands 0.3 of a sample behind the last symbol's instant.
@@ -33,7 +33,7 @@ fn turned_by(x: C32, q: Pair) -> C32
 // Sample j of the four that lead to the next symbol.
 fn sample(table: &[f32; 4097], s: Source, j: u32) -> C32
     requires { ⌜ j < 4 ⌝ }
-    ensures { λ r. ⌜ r ≡ sampleOf (now (table .entry)) s j ⌝ }
+    ensures { λ r. ⌜ r ≡ sampleAt (now (table .entry)) s j ⌝ }
 {
     let way = mix::interp_f32_pair(table, FIRST + j * EIGHTH);
     let x = C32 {

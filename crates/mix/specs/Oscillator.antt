@@ -1,21 +1,21 @@
 -- "idx is the top 12 phase bits, f the low 20 over 2^20; c = a + (b - a) × f over entries idx, idx + 1; s likewise at (idx + 3072) mod 4096." Definitions only.
 use Prim.Native.Nat.{ℕ, _+_, _/_, _%_, _^_}
-use mathlib.Core.Bool.{false}
 use mathlib.Core.List.{List}
 use lib.ListN.{getD}
-use lib.Ieee.{Float, nan, binary32, round, add, sub, mul}
+use lib.Ieee.{Float, nan, binary32}
+use Rattle.ieee.specs.Notation.{_⊕_, _⊖_, _⊗_, decimal}
 use Rattle.mix.specs.declared.oscillator.Pair.{Pair}
 
 -- the low 20 bits of the phase p over 2^20, which an f32 holds
 abbrev pub fraction : ℕ → Float
-fraction p = round binary32 false (p % 2 ^ 20) (2 ^ 20)
+fraction p = decimal binary32 (p % 2 ^ 20) (2 ^ 20)
 
 -- between the entries idx and idx + 1 of the table, at the fraction f of the way
 abbrev pub between : List Float → ℕ → Float → Float
 between table idx f =
     let a = getD table idx nan in
     let b = getD table (idx + 1) nan in
-    add binary32 a (mul binary32 (sub binary32 b a) f)
+    a ⊕ (b ⊖ a) ⊗ f
 
 -- the index a quarter turn before
 abbrev pub quarterBefore : ℕ → ℕ

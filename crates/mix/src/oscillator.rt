@@ -2,6 +2,15 @@
 ghost use mathlib.Core.Path.{_≡_};
 ghost use Rattle.mix.specs.Oscillator.{pairAt};
 
+// 2^20: the table's index stands above the low 20 bits of a phase, the fraction in them.
+const ENTRY: u32 = 0x10_0000;
+
+// 2^30: a quarter turn.
+const QUARTER: u32 = 0x4000_0000;
+
+// The bits of 1.0: what is put below them are the digits behind its leading one.
+const ONE_BITS: u32 = 0x3f80_0000;
+
 // Cosine and sine of a phase.
 pub struct Pair {
     pub c: f32,
@@ -15,9 +24,9 @@ pub struct Pair {
 pub fn interp_f32_pair(table: &[f32; 4097], p: u32) -> Pair
     ensures { λ r. ⌜ r ≡ pairAt (now (table .entry)) p ⌝ }
 {
-    let idx = (p / 1048576) as usize;
-    let sidx = (std::num::wrapping_add_u32(p, 3221225472) / 1048576) as usize;
-    let f = f32::from_bits(p % 1048576 * 8 + 1065353216) - 1.0;
+    let idx = (p / ENTRY) as usize;
+    let sidx = (std::num::wrapping_sub_u32(p, QUARTER) / ENTRY) as usize;
+    let f = f32::from_bits(p % ENTRY * 8 + ONE_BITS) - 1.0;
     let a = table[idx];
     let b = table[idx + 1];
     let sa = table[sidx];

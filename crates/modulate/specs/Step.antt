@@ -3,8 +3,8 @@ use Prim.Native.Nat.{ℕ, _+_, _-_, _*_, _%_, _^_}
 use mathlib.Core.Bool.{Bool, true, false, cond}
 use lib.IntN.{pos}
 use lib.Dec.{leb}
-use lib.Ieee.{Float, nan, inf, fin, binary64, up, down, add, mul}
-use Rattle.ieee.specs.Notation.{half₀}
+use lib.Ieee.{Float, nan, inf, fin, up, down}
+use Rattle.ieee.specs.Notation.{_⊞_, _⊠_, half₀}
 use Rattle.numbers.specs.Whole.{wholeDown}
 
 -- ±n modulo 2^32
@@ -41,7 +41,7 @@ stepped (fin s m e) = cond (leb (castEnd * down e) (m * up e)) (cond s 0 4294967
 
 -- x × k + 1/2, two roundings
 abbrev pub stepOf : Float → Float → ℕ
-stepOf x k = stepped (add binary64 (mul binary64 x k) half₀)
+stepOf x k = stepped (x ⊠ k ⊞ half₀)
 
 -- 2^32, the k that a phase step of an f32 is taken with (`step-single`)
 abbrev pub turn₀ : Float
@@ -49,9 +49,9 @@ turn₀ = fin false 1 (pos 32)
 
 -- ---- ends of ranges in the code
 -- 2^51
-abbrev pub near : Float
-near = fin false 1 (pos 51)
+abbrev pub magicRange : Float
+magicRange = fin false 1 (pos 51)
 
 -- 2^14
-abbrev pub small : Float
-small = fin false 1 (pos 14)
+abbrev pub bitsRange : Float
+bitsRange = fin false 1 (pos 14)

@@ -2,7 +2,7 @@
 pub mod Denormal
 pub mod Whole
 pub mod Part
-pub mod Nearby
+pub mod Beside
 pub mod Range
 pub mod Narrowing
 pub mod Shifting

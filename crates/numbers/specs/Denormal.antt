@@ -1,13 +1,13 @@
 -- "flush makes magnitudes below 1e-30 zero". Definitions only.
 use Prim.Native.Nat.{_^_}
-use mathlib.Core.Bool.{false, cond}
-use lib.Ieee.{Float, Format, round, lt}
-use Rattle.ieee.specs.Notation.{zero₀}
+use mathlib.Core.Bool.{cond}
+use lib.Ieee.{Float, Format, lt}
+use Rattle.ieee.specs.Notation.{zero₀, decimal}
 use Rattle.ieee.specs.Magnitude.{magnitude}
 
 -- 1e-30, nearest in the format
 abbrev pub tiny : Format → Float
-tiny f = round f false 1 (10 ^ 30)
+tiny f = decimal f 1 (10 ^ 30)
 
 -- x, or 0 if its magnitude is below 1e-30; a NaN is itself
 unfoldable pub flushed : Format → Float → Float

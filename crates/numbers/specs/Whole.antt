@@ -4,8 +4,8 @@ use Prim.Native.Nat.{ℕ, _+_, _-_, _*_, _/_}
 use mathlib.Core.Bool.{Bool, true, false}
 use lib.IntN.{pos}
 use lib.Dec.{T}
-use lib.Ieee.{Float, nan, inf, fin, binary64, up, down, round, add, lt, eq}
-use Rattle.ieee.specs.Notation.{one₀}
+use lib.Ieee.{Float, nan, inf, fin, binary64, up, down, round, lt, eq}
+use Rattle.ieee.specs.Notation.{_⊞_, one₀}
 
 -- ±a / c toward minus infinity, in size: below zero the quotient is taken up
 abbrev pub wholeDown : Bool → ℕ → ℕ → ℕ
@@ -39,4 +39,4 @@ far = fin false 1 (pos 52)
 pub data Beside (x r : Float) : Type 0 where
   same : x ≡ floored x → T (eq r x) → Beside x r
   under : T (lt (floored x) x) → r ≡ floored x → Beside x r
-  over : T (lt (floored x) x) → r ≡ add binary64 (floored x) one₀ → Beside x r
+  over : T (lt (floored x) x) → r ≡ floored x ⊞ one₀ → Beside x r

@@ -12,22 +12,20 @@ const TINY_F64: f64 = 1e-30;
 pub fn flush_denormal(x: f32) -> f32
     ensures { λ r. ⌜ r ≡ flushed binary32 x ⌝ }
 {
-    if x > -TINY_F32 {
-        if x < TINY_F32 {
-            return 0.0;
-        }
+    if x > -TINY_F32 && x < TINY_F32 {
+        0.0
+    } else {
+        x
     }
-    x
 }
 
 // f64 variant of flush_denormal.
 pub fn flush_denormal_f64(x: f64) -> f64
     ensures { λ r. ⌜ r ≡ flushed binary64 x ⌝ }
 {
-    if x > -TINY_F64 {
-        if x < TINY_F64 {
-            return 0.0;
-        }
+    if x > -TINY_F64 && x < TINY_F64 {
+        0.0
+    } else {
+        x
     }
-    x
 }

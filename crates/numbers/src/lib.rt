@@ -1,6 +1,7 @@
 // Numbers, from num.rs: flushing; and what document 01 adds: floor, narrowing, widening, limits,
 // finiteness and the sign.
 mod denormal;
+mod fields;
 mod narrowing;
 mod range;
 mod signs;

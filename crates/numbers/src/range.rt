@@ -16,29 +16,29 @@ pub fn limit_f32(v: f32, limit: f32) -> f32
     }
 }
 
-// x limited to -lim .. lim.
-pub fn limit_f64(x: f64, lim: f64) -> f64
-    ensures { λ r. ⌜ r ≡ limited x lim ⌝ }
+// f64 variant of limit_f32.
+pub fn limit_f64(x: f64, limit: f64) -> f64
+    ensures { λ r. ⌜ r ≡ limited x limit ⌝ }
 {
-    if x < -lim {
-        -lim
-    } else if x > lim {
-        lim
+    if x < -limit {
+        -limit
+    } else if x > limit {
+        limit
     } else {
         x
     }
 }
 
-// Whether v is neither a NaN nor an infinity: only then is v - v a number.
-pub fn is_finite_f32(v: f32) -> bool
-    ensures { λ r. ⌜ r ≡ finite v ⌝ }
+// Whether x is neither a NaN nor an infinity: only then is x - x a number.
+pub fn is_finite_f32(x: f32) -> bool
+    ensures { λ r. ⌜ r ≡ finite x ⌝ }
 {
-    v - v == 0.0
+    x - x == 0.0f32
 }
 
 // f64 variant of is_finite_f32.
 pub fn is_finite_f64(x: f64) -> bool
     ensures { λ r. ⌜ r ≡ finite x ⌝ }
 {
-    x - x == 0.0
+    x - x == 0.0f64
 }

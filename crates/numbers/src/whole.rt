@@ -6,22 +6,15 @@ ghost use lib.Ieee.{neg, lt};
 ghost use Rattle.ieee.specs.Notation.{zero₀, one₀};
 ghost use Rattle.numbers.specs.Whole.{floored, far, Beside};
 
-// The greatest whole number not above x. A NaN and an infinity come back as they are, and a zero
-// with its sign. From 2^52 up an f64 has no fraction; below that, 2^52 added and taken off again
-// leaves a whole number less than 1 away from x. Each sign has a path of its own, which costs less
-// than a choice between two sums.
-pub fn floor(x: f64) -> f64
-    ensures { λ r. ⌜ r ≡ floored x ⌝ }
+// 2^52: from here up an f64 has no fraction.
+const FAR: f64 = 4_503_599_627_370_496.0;
+
+// 1 where m lies above x, else 0. Whether it does is as good as random, so that no branch turns on
+// it: this is a choice between two numbers.
+fn above(m: f64, x: f64) -> f64
+    ensures { λ r. ⌜ r ≡ cond (lt x m) one₀ zero₀ ⌝ }
 {
-    if x > -4503599627370496.0 {
-        if x < 4503599627370496.0 {
-            if x < 0.0 {
-                return mended((x - 4503599627370496.0) + 4503599627370496.0, x);
-            }
-            return mended((x + 4503599627370496.0) - 4503599627370496.0, x);
-        }
-    }
-    x
+    if m > x { 1.0 } else { 0.0 }
 }
 
 // The floor of x, for |x| < 2^52, from one of the two whole numbers next to x, or x itself if it is
@@ -38,10 +31,17 @@ fn mended(m: f64, x: f64) -> f64
     m - above(m, x)
 }
 
-// 1 where m lies above x, else 0. Whether it does is as good as random, so that no branch turns on
-// it: this is a choice between two numbers.
-fn above(m: f64, x: f64) -> f64
-    ensures { λ r. ⌜ r ≡ cond (lt x m) one₀ zero₀ ⌝ }
+// The greatest whole number not above x. A NaN and an infinity come back as they are, and a zero
+// with its sign. Below 2^52 in size, 2^52 added and taken off again leaves a whole number less than 1
+// away from x. Each sign has a path of its own, which costs less than a choice between two sums.
+pub fn floor(x: f64) -> f64
+    ensures { λ r. ⌜ r ≡ floored x ⌝ }
 {
-    if m > x { 1.0 } else { 0.0 }
+    if x > -FAR && x < FAR {
+        if x < 0.0 {
+            return mended((x - FAR) + FAR, x);
+        }
+        return mended((x + FAR) - FAR, x);
+    }
+    x
 }

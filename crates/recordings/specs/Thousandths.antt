@@ -2,8 +2,8 @@
 use Prim.Native.Nat.{ℕ}
 use mathlib.Core.Bool.{true, false, _&&_, cond}
 use lib.IntN.{pos}
-use lib.Ieee.{Float, fin, binary64, add, mul, lt, toUnsigned}
-use Rattle.ieee.specs.Notation.{half₀}
+use lib.Ieee.{Float, fin, lt, toUnsigned}
+use Rattle.ieee.specs.Notation.{_⊞_, _⊠_, half₀}
 
 abbrev pub thousand : Float
 thousand = fin false 125 (pos 3)
@@ -17,4 +17,4 @@ beyond = fin false 1 (pos 64)
 
 -- x × 1000 + 1/2 without its fraction; 0 for what is negative, no number or too large
 unfoldable pub thousandthsOf : Float → ℕ
-thousandthsOf x = let t = add binary64 (mul binary64 x thousand) half₀ in cond (lt before t && lt t beyond) (toUnsigned 64 t) 0
+thousandthsOf x = let t = x ⊠ thousand ⊞ half₀ in cond (lt before t && lt t beyond) (toUnsigned 64 t) 0

@@ -5,23 +5,24 @@ use mathlib.Core.Logic.{inl, inr}
 use Prim.Native.Nat.{ℕ, zero, suc, _+_, _-_, _*_, _/_, _%_, _^_, _≤_, _<_, min}
 use native.Mathlib.Nat.{le-trans, le-of-eq, lt-of-lt-of-le, lt-of-le-of-lt, lt-irrefl, zero-lt-suc, zero-mul, zero-add, mul-pos, mul-le-mul-right, mod-lt, min-eq-left, min-eq-right}
 use native.Mathlib.Omega.{arith}
-use mathlib.Core.Bool.{Bool, true, false, not, cond}
+use mathlib.Core.Bool.{Bool, true, false, not}
 use lib.IntN.{pos}
 use lib.Arith.{lt-of-le-ne}
 use lib.Dec.{T, leb, ltb, eqb, lit≤}
 use lib.Pow.{pow-pos, pow-add, pow-mono, shl-lt}
-use lib.Ieee.{Float, nan, inf, fin, binary32, neg, lt, fits, isNan, ofFields, ofBits, toBits}
+use lib.Ieee.{Float, fin, binary32, neg, lt, fits, isNan, ofFields, ofBits, toBits}
 use lib.Ieee.Bits.{ofBits-toBits, toBits-lt}
 use lib.Ieee.Exact.{HasValue}
 use lib.Ieee.Scale.{finite}
 use borrow.Author.Tests.{lt-ltb, le-ltb}
 use Rattle.ieee.proofs.Laws.Test.{order}
 use Rattle.ieee.proofs.Laws.Nan.{finite-not-nan}
+use Rattle.ieee.proofs.Laws.NotFinite.{inf-or-nan}
 use Rattle.ieee.proofs.Laws.Round.{neg-value}
 use Rattle.ieee.proofs.Laws.Held.{pow-below}
 use Rattle.ieee.proofs.Laws.Bits.{low-value, normal-value, sign-bit}
 use Rattle.ieee.proofs.Laws.Order.{has-val, lt→vals, inside-finite}
-use Rattle.modulate.specs.Step.{wrapped, rounded, phaseStep, small}
+use Rattle.modulate.specs.Step.{wrapped, rounded, phaseStep, bitsRange}
 use Rattle.modulate.proofs.Laws.Rounded.{rounded-same, rounded-small, step-of}
 use Rattle.modulate.proofs.Laws.StepBits.{quotient, shift-halved, shift-small, shift-room}
 
@@ -68,22 +69,18 @@ finite-field : (b : ℕ) → T (finite (ofBits binary32 b)) → field b < 255
 unfolding ofBits ofFields
 finite-field b h =
     lt-of-le-ne (omega arith)
-    (λ (e : field b ≡ 255). never (eqb (digits b) 0) (leb (2 ^ 31) b) (subst (λ (z : ℕ). T (finite (ofFields binary32 (leb (2 ^ 31) b) z (digits b)))) {x = b % 2 ^ 31 / 2 ^ 23} {y = 255} (omega arith) h))
-  where
-    never : (d s : Bool) → T (finite (cond d (inf s) nan)) → ⊥
-    never true s h = h
-    never false s h = h
+    (λ (e : field b ≡ 255). inf-or-nan (eqb (digits b) 0) (leb (2 ^ 31) b) (subst (λ (z : ℕ). T (finite (ofFields binary32 (leb (2 ^ 31) b) z (digits b)))) {x = b % 2 ^ 31 / 2 ^ 23} {y = 255} (omega arith) h))
 
 -- ---- below 2^14 in size
-small-finite : (v : Float) → T (lt (neg small) v) → T (lt v small) → T (finite v)
-small-finite v h k = inside-finite small v tt h k
+small-finite : (v : Float) → T (lt (neg bitsRange) v) → T (lt v bitsRange) → T (finite v)
+small-finite v h k = inside-finite bitsRange v tt h k
 
-pub small-number : (v : Float) → T (lt (neg small) v) → T (lt v small) → T (not (isNan v))
+pub small-number : (v : Float) → T (lt (neg bitsRange) v) → T (lt v bitsRange) → T (not (isNan v))
 small-number v h k = finite-not-nan v (small-finite v h k)
 
-size-lt : (v : Float) (s : Bool) (a c : ℕ) → 0 < c → HasValue v s a c → T (lt (neg small) v) → T (lt v small) → a < 2 ^ 14 * c
+size-lt : (v : Float) (s : Bool) (a c : ℕ) → 0 < c → HasValue v s a c → T (lt (neg bitsRange) v) → T (lt v bitsRange) → a < 2 ^ 14 * c
 unfolding neg
-size-lt v false a c C u h k = let l = lt→vals v small a 0 c (2 ^ 14) 0 1 C (zero-lt-suc 0) (has-val v false a c u) (tt, refl) k in omega arith
+size-lt v false a c C u h k = let l = lt→vals v bitsRange a 0 c (2 ^ 14) 0 1 C (zero-lt-suc 0) (has-val v false a c u) (tt, refl) k in omega arith
 size-lt v true a c C u h k = let l = lt→vals (fin true 1 (pos 14)) v 0 (2 ^ 14) 1 0 a c (zero-lt-suc 0) C (tt, refl) (has-val v true a c u) h in omega arith
 
 count-small : (x t : ℕ) → count x t < 2 ^ 163 → x ≤ 140
@@ -133,7 +130,7 @@ same-floor s x t h k = elim (order x 94) [ inl l ↦ floor-low s x t l k | inr l
 abbrev pub bitsQuotient : ℕ → ℕ
 bitsQuotient b = quotient (ltb b (2 ^ 31)) (shifted (digits b)) (2 ^ places (field b))
 
-module _ (v : Float) (held : T (fits binary32 v)) (lo : T (lt (neg small) v)) (hi : T (lt v small)) where
+module _ (v : Float) (held : T (fits binary32 v)) (lo : T (lt (neg bitsRange) v)) (hi : T (lt v bitsRange)) where
   own-value : let b = toBits binary32 v in HasValue v (sign b) (count (field b) (digits b)) (2 ^ 149)
   own-value =
       let b = toBits binary32 v in

@@ -21,8 +21,8 @@ use Rattle.ieee.proofs.Laws.Exact.{rounds-whole}
 use Rattle.ieee.proofs.Laws.Bits.{whole-bits}
 use Rattle.numbers.specs.Whole.{floorPlus, floorLess}
 use Rattle.numbers.proofs.Laws.Whole.{floor-under, floor-next, floor-size}
-use Rattle.numbers.proofs.Laws.Nearby.{lands}
-use Rattle.modulate.specs.Step.{stepped, near}
+use Rattle.numbers.proofs.Laws.Beside.{lands}
+use Rattle.modulate.specs.Step.{stepped, magicRange}
 use Rattle.modulate.proofs.Laws.Stepped.{Sized, stepped-own}
 
 -- 1.5 × 2^52
@@ -43,9 +43,9 @@ taken-off r u B l p h g = take-same (r + l) p u (ap (λ (n : ℕ). n % 2 ^ 32) (
     swap : (r l u : ℕ) → r + l + u ≡ r + u + l
     swap r l u = omega arith
 
-module _ (v : Float) (lo : T (lt (neg near) v)) (hi : T (lt v near)) where
+module _ (v : Float) (lo : T (lt (neg magicRange) v)) (hi : T (lt v magicRange)) where
   fine : T (finite v)
-  fine = inside-finite near v tt lo hi
+  fine = inside-finite magicRange v tt lo hi
 
   in-size : (k : ℕ) → 2 ^ 51 ≤ k → Sized k (plus v) (less v) (den v)
   in-size k h =

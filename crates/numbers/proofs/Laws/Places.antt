@@ -143,13 +143,13 @@ narrow-none n h =
 clean : (D p r : ℕ) → r ≡ closest (D * 2 + 0) (2 ^ (p + 2)) → r ≡ closest D (2 ^ (p + 1))
 clean D p r e = e ∙ closest-same (D * 2 + 0) (2 ^ (p + 2)) D (2 ^ (p + 1)) (pow-pos (p + 2)) (pow-pos (p + 1)) (rw (pow-add 2 p 2, pow-add 2 p 1) (omega arith))
 
-pub narrow-low : (n r : ℕ) → 1 ≤ n / 2 ^ 52 → n / 2 ^ 52 < 897 → r ≡ closest ((2 ^ 52 + n % 2 ^ 52) * 2 + 0) (2 ^ (925 - n / 2 ^ 52 + 2)) → (ofBits binary32 r ≡ narrowed (ofBits binary64 n)) × (r ≤ 2 ^ 23)
+pub narrow-low : (n r : ℕ) → 1 ≤ n / 2 ^ 52 → n / 2 ^ 52 < 897 → r ≡ closest ((2 ^ 52 + n % 2 ^ 52) * 2 + 0) (2 ^ (28 + (897 - n / 2 ^ 52) + 2)) → (ofBits binary32 r ≡ narrowed (ofBits binary64 n)) × (r ≤ 2 ^ 23)
 narrow-low n r g h e =
     let x = n / 2 ^ 52 - 1 in
     let D = 2 ^ 52 + n % 2 ^ 52 in
     let p = 925 - x in
     let v = round binary32 false (D * 2 ^ x) (2 ^ 1074) in
-    let q : r ≡ closest D (2 ^ p) = clean D (925 - n / 2 ^ 52) r e ∙ ap (λ (z : ℕ). closest D (2 ^ z)) (omega arith) in
+    let q : r ≡ closest D (2 ^ p) = clean D (28 + (897 - n / 2 ^ 52)) r e ∙ ap (λ (z : ℕ). closest D (2 ^ z)) (omega arith) in
     let w : D < 2 ^ 23 * 2 ^ p = lt-of-lt-of-le {m = 2 ^ 53} (omega arith) (le-trans (pow-mono {i = 53} {j = 23 + p} (omega arith)) (le-of-eq (pow-add 2 23 p))) in
     let l : closest D (2 ^ p) ≤ 2 ^ 23 = near-le D (2 ^ p) (2 ^ 23) (pow-pos p) w in
     (ap (ofBits binary32) q ∙ bits-low v (closest D (2 ^ p)) 0 (round-fits binary32 false (D * 2 ^ x) (2 ^ 1074)) (round-low D x (omega arith) (omega arith)) refl l ∙ sym (digits-of n g (omega arith)), rw q l)

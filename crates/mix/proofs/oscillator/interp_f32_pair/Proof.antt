@@ -15,8 +15,8 @@ use Rattle.mix.proofs.oscillator.interp_f32_pair.Tie as tie
 cast-idx : tie.Need-cast-idx
 cast-idx c = search needs
 
-wrapping-add-u32-requires : tie.Need-wrapping-add-u32-requires
-wrapping-add-u32-requires c κs = search needs
+wrapping-sub-u32-requires : tie.Need-wrapping-sub-u32-requires
+wrapping-sub-u32-requires c κs = search needs
 
 cast-sidx : tie.Need-cast-sidx
 cast-sidx c = search needs
@@ -65,9 +65,9 @@ returns c =
     let args = c .before .before .before .before .before .args in
     let table = args .table .now in
     let idx = args .p / 2 ^ 20 in
-    let after = c .before .before .before .before .wrapping-add-u32 in
+    let after = c .before .before .before .before .wrapping-sub-u32 in
     let sidx : after .result / 2 ^ 20 ≡ quarterBefore idx = omega (arith, after .ensures) in
-    let f = sub binary32 (ofBits binary32 (args .p % 2 ^ 20 * 8 + 1065353216)) (ofBits binary32 1065353216) in
+    let f = sub binary32 (ofBits binary32 (args .p % 2 ^ 20 * 8 + 127 * 2 ^ 23)) (ofBits binary32 (127 * 2 ^ 23)) in
     ap (λ (j : ℕ). pair table idx j f) sidx ∙ ap (pair table idx (quarterBefore idx)) (fraction-is (args .p))
   where
     pair : List Float → ℕ → ℕ → Float → Pair
@@ -78,7 +78,7 @@ interp-f32-pair-spec =
     tie.close
     (tie.spec
     cast-idx
-    wrapping-add-u32-requires
+    wrapping-sub-u32-requires
     cast-sidx
     mul-f
     add-f

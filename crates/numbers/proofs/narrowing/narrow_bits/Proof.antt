@@ -11,6 +11,9 @@ add-digits c = search needs
 sub-shifted : tie.Need-sub-shifted
 sub-shifted c = search needs
 
+add-shifted : tie.Need-add-shifted
+add-shifted c = search needs
+
 shifted-requires : tie.Need-shifted-requires
 shifted-requires c κs = search needs
 
@@ -43,4 +46,4 @@ returns-4 : tie.Need-returns-4
 returns-4 c = (narrow-over (c .before .before .before .args .size) (omega arith) (omega arith), omega arith)
 
 pub narrow-bits-spec : {M : Type 1} → statement M
-narrow-bits-spec = tie.close (tie.spec add-digits sub-shifted shifted-requires mul-result shifted-requires-2 add-result returns returns-2 returns-3 returns-4)
+narrow-bits-spec = tie.close (tie.spec add-digits sub-shifted add-shifted shifted-requires mul-result shifted-requires-2 add-result returns returns-2 returns-3 returns-4)

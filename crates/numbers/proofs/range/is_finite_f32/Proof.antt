@@ -6,7 +6,7 @@ use Rattle.numbers.proofs.range.is_finite_f32.Tie as tie
 
 returns : tie.Need-returns
 unfolding ofBits
-returns c = finite-test binary32 (c .args .v)
+returns c = finite-test binary32 (c .args .x)
 
 pub is-finite-f32-spec : {M : Type 1} → statement M
 is-finite-f32-spec = tie.close (tie.spec returns)

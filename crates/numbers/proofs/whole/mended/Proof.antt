@@ -3,7 +3,7 @@ use lib.Dec.{T}
 use borrow.Author.Needs.{needs}
 use lib.Ieee.{binary64, fits}
 use Rattle.ieee.proofs.Laws.Test.{yes, no}
-use Rattle.numbers.proofs.Laws.Nearby.{floor-same, floor-off}
+use Rattle.numbers.proofs.Laws.Beside.{floor-equal, floor-off}
 use Rattle.numbers.proofs.whole.mended.Statement.{statement}
 use Rattle.numbers.proofs.whole.mended.Tie as tie
 
@@ -12,7 +12,7 @@ held : (c : tie.Start) → T (fits binary64 (c .args .x))
 held c = yes (c .good .1 .0 .1)
 
 returns : tie.Need-returns
-returns c = let s = c .before in floor-same (s .args .x) (held s) (s .pre .0) (s .pre .1 .0) _ (s .pre .1 .1) (yes (c .if1 .taken))
+returns c = let s = c .before in floor-equal (s .args .x) (held s) (s .pre .0) (s .pre .1 .0) _ (s .pre .1 .1) (yes (c .if1 .taken))
 
 above-requires : tie.Need-above-requires
 above-requires c κs = search needs

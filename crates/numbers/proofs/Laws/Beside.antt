@@ -142,27 +142,27 @@ module _ (x : Float) (t : T (fits binary64 x)) (lo : T (lt (neg far) x)) (hi : T
             ]
 
   -- ---- the code's two ways
-  pub nearby-below : T (lt x zero₀) → Beside x (add binary64 (sub binary64 x far) far)
+  pub beside-below : T (lt x zero₀) → Beside x (add binary64 (sub binary64 x far) far)
   unfolding sub neg
-  nearby-below l =
+  beside-below l =
       let a = lt→cross x zero₀ fine tt l in
       let b = floor-under x fine in
       let c : floorPlus x < floorLess x = lt-of-mul-lt-mul-right (den x) (omega arith) in
       beside (fin true 1 (pos 52)) 0 (2 ^ 52) (tt, refl) (lit< tt) (omega arith) (omega arith) (inr (omega arith))
 
-  pub nearby-above : T (not (lt x zero₀)) → Beside x (sub binary64 (add binary64 x far) far)
+  pub beside-above : T (not (lt x zero₀)) → Beside x (sub binary64 (add binary64 x far) far)
   unfolding sub neg
-  nearby-above l =
+  beside-above l =
       let a = le→cross zero₀ x tt fine (not-lt→le x zero₀ (finite-number x fine) tt l) in
       let b = floor-next x fine in
       let c : floorLess x < suc (floorPlus x) = lt-of-mul-lt-mul-right (den x) (omega arith) in
       beside far (2 ^ 52) 0 (tt, refl) (lit< tt) (omega arith) (omega arith) (inl (omega arith))
 
   -- ---- from a whole number beside x to the floor
-  pub floor-same : (r : Float) → Beside x r → T (eq r x) → x ≡ floored x
-  floor-same r (same e h) k = e
-  floor-same r (under l e) k = absurd (unequal (floored x) x (floor-finite x fine t) fine l (subst (λ (z : Float). T (eq z x)) e k))
-  floor-same r (over l e) k =
+  pub floor-equal : (r : Float) → Beside x r → T (eq r x) → x ≡ floored x
+  floor-equal r (same e h) k = e
+  floor-equal r (under l e) k = absurd (unequal (floored x) x (floor-finite x fine t) fine l (subst (λ (z : Float). T (eq z x)) e k))
+  floor-equal r (over l e) k =
       let y = add binary64 (floored x) one₀ in
       absurd (unequal x y fine (next-is x t lo hi .0) (floor-lt-next x t lo hi) (subst T (eq-swap y x) (subst (λ (z : Float). T (eq z x)) e k)))
 
