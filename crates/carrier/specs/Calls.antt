@@ -1,9 +1,8 @@
 -- "Turned recordings", for the carrier alone: a list of calls, each on the state that the last one left, and what is claimed of a second list that is the first turned k times. Definitions only.
 use mathlib.Core.Path.{_≡_}
 use Prim.Native.Nat.{ℕ, _+_, _-_, _%_}
-use mathlib.Core.Bool.{Bool, true}
+use mathlib.Core.Bool.{Bool}
 use mathlib.Core.List.{List}
-use lib.Dec.{T}
 use Rattle.ieee.specs.Alike.{Alike}
 use Rattle.values.specs.Samples.{samples}
 use Rattle.lists.specs.Each.{Each}
@@ -11,8 +10,6 @@ use Rattle.values.specs.Calls.{outcomesBy, afterBy}
 use Rattle.values.specs.Turn.{AllTurned}
 use Rattle.values.specs.TurnedCall.{Call}
 use Rattle.mix.specs.Quarter.{quartersOn}
-use Rattle.carrier.specs.declared.constellation.CostasConstellation.{CostasConstellation}
-use Rattle.carrier.specs.declared.constellation.CostasConstellation.the-variants.{Bpsk, Qpsk, Psk8}
 use Rattle.carrier.specs.declared.state.CostasState.{CostasState}
 use Rattle.carrier.specs.Run.{Outcome, called, accepts}
 
@@ -32,12 +29,6 @@ outcomes s cs = outcomesBy callOf leftBy s cs
 
 abbrev pub after : CostasState → List Call → CostasState
 after s cs = afterBy callOf leftBy s cs
-
--- "k and m are 0 to 3, under BPSK with k - m even"
-abbrev pub Allowed : CostasConstellation → ℕ → ℕ → Type 0
-Allowed Bpsk k m = (k + m) % 2 ≡ 0
-Allowed Qpsk k m = T true
-Allowed Psk8 k m = T true
 
 -- "(k - m) mod 4"
 abbrev pub turnsLess : ℕ → ℕ → ℕ

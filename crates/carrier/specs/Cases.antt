@@ -5,11 +5,11 @@ use lib.Ieee.{Float, binary32, ofBits}
 use Rattle.ieee.specs.Notation.{zero₀, half₀, one₀, decimal}
 use Rattle.values.specs.declared.sample.C32.{C32}
 use Rattle.values.specs.Samples.{silence}
-use Rattle.carrier.specs.declared.constellation.CostasConstellation.the-variants.{Qpsk}
-use Rattle.carrier.specs.declared.lock.Metric.{Metric}
-use Rattle.carrier.specs.declared.lock.Metric.the-variants.{Number, Nothing}
-use Rattle.carrier.specs.Octant.{octantOf, decisionOf}
-use Rattle.carrier.specs.Lock.{metricOf, held}
+use Rattle.constellations.specs.declared.kinds.CostasConstellation.the-variants.{Qpsk}
+use Rattle.detectors.specs.declared.lock.Metric.{Metric}
+use Rattle.detectors.specs.declared.lock.Metric.the-variants.{Number, Nothing}
+use Rattle.constellations.specs.Octant.{octantOf, decisionOf}
+use Rattle.detectors.specs.Lock.{metricOf, held}
 
 -- (1, 1) and (0, 1)
 abbrev diagonal : C32

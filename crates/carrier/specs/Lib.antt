@@ -1,10 +1,8 @@
-pub mod Octant
-pub mod Detector
-pub mod Lock
 pub mod Gains
 pub mod Filter
 pub mod Step
 pub mod State
+pub mod Inside
 pub mod Run
 pub mod Calls
 pub mod Cases

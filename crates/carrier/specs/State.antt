@@ -13,7 +13,7 @@ use Rattle.numbers.specs.Narrowing.{narrowed}
 use Rattle.numbers.specs.Range.{limited}
 use Rattle.checks.specs.Range.{inRange}
 use Rattle.checks.specs.Table.{Row, firstOf}
-use Rattle.carrier.specs.declared.constellation.CostasConstellation.{CostasConstellation}
+use Rattle.constellations.specs.declared.kinds.CostasConstellation.{CostasConstellation}
 use Rattle.carrier.specs.declared.params.Params.{Params}
 use Rattle.carrier.specs.declared.state.CostasState.{CostasState}
 use Rattle.carrier.specs.declared.state.SetUp.{SetUp}

@@ -3,12 +3,12 @@ use mathlib.Core.List.{List, [], _∷_}
 use lib.Ieee.{Float}
 use Rattle.values.specs.declared.sample.C32.{C32}
 use Rattle.mix.specs.Oscillator.{pairAt}
-use Rattle.carrier.specs.declared.constellation.CostasConstellation.{CostasConstellation}
+use Rattle.constellations.specs.declared.kinds.CostasConstellation.{CostasConstellation}
 use Rattle.carrier.specs.declared.params.Params.{Params}
 use Rattle.carrier.specs.declared.symbol.Track.{Track}
-use Rattle.carrier.specs.Octant.{decisionOf}
-use Rattle.carrier.specs.Detector.{derotated, errorOf}
-use Rattle.carrier.specs.Lock.{metricOf, watched}
+use Rattle.constellations.specs.Octant.{decisionOf}
+use Rattle.detectors.specs.Detector.{derotated, errorOf}
+use Rattle.detectors.specs.Lock.{metricOf, watched}
 use Rattle.carrier.specs.Filter.{advanced}
 
 -- after the derotated symbol y

@@ -5,7 +5,7 @@ ghost use lib.Ieee.{binary32};
 ghost use Rattle.ieee.specs.Notation.{zero₀};
 ghost use Rattle.numbers.specs.Denormal.{flushed};
 ghost use Rattle.numbers.specs.Range.{limited};
-ghost use Rattle.carrier.specs.Detector.{calmed};
+ghost use Rattle.detectors.specs.Detector.{calmed};
 ghost use Rattle.carrier.specs.Filter.{advanced};
 
 // The oscillator.
@@ -17,16 +17,20 @@ pub struct Nco {
     pub freq: f32,
 }
 
+// Magnitudes below this are flushed to zero.
+const TINY: f32 = 1e-30;
+
+// The units of the phase in one turn, 2^32.
+const TURN: f64 = 4294967296.0;
+
 // The integrator `clamp(flush_denormal(t), -limit, limit)`: inside the limit and above the flush
 // threshold (the case of a running loop) it is t itself, after one branch that is well foretold.
 pub fn integrate(t: f32, limit: f32) -> f32
     ensures { λ r. ⌜ r ≡ limited (flushed binary32 t) limit ⌝ }
 {
-    let a = crate::octants::size(t);
-    if a <= limit {
-        if a >= 1e-30f32 {
-            return t;
-        }
+    let a = constellations::size(t);
+    if a <= limit && a >= TINY {
+        return t;
     }
     numbers::limit_f32(numbers::flush_denormal(t), limit)
 }
@@ -35,7 +39,8 @@ pub fn integrate(t: f32, limit: f32) -> f32
 fn steer(p: Params, n: Nco, e: f32) -> Nco
     ensures { λ r. ⌜ r ≡ advanced p n e ⌝ }
 {
-    let freq = integrate(n.freq + p.ki * e, p.max);
+    let old = n.freq;
+    let freq = integrate(old + p.ki * e, p.max);
     let step = modulate::phase_step_f32(freq + p.kp * e);
     Nco {
         phase: std::num::wrapping_add_u32(n.phase, step),
@@ -49,7 +54,7 @@ fn coast(p: Params, n: Nco) -> Nco
     ensures { λ r. ⌜ r ≡ advanced p n zero₀ ⌝ }
 {
     let freq = numbers::limit_f32(numbers::flush_denormal(n.freq + p.ki * 0.0f32), p.max);
-    let step = modulate::phase_step(numbers::widen(freq + p.kp * 0.0f32), 4294967296.0);
+    let step = modulate::phase_step(numbers::widen(freq + p.kp * 0.0f32), TURN);
     Nco {
         phase: std::num::wrapping_add_u32(n.phase, step),
         freq: freq,

@@ -1,20 +1,16 @@
-// The carrier loop but for its run over slices, from kernels/costas.rs, fallback/costas.rs and
-// reference/costas.rs: state, set-up, reset, setters and readings, octants, the phase detectors, the lock
-// detector, the loop filter, and one step. Nothing here requires anything but `Given` of a state.
-mod constellation;
-mod detection;
+// The carrier loop but for its run over slices, from kernels/costas.rs and fallback/costas.rs: state, set-up,
+// reset, setters and readings, the loop filter, and one step. Nothing here requires anything but `Given` of a
+// state.
 mod filter;
-mod lock;
-mod octants;
 mod params;
 mod state;
 mod symbol;
 
-pub use constellation::CostasConstellation;
-pub use detection::derotate;
+pub use constellations::CostasConstellation;
+pub use constellations::octant;
+pub use detectors::Lock;
+pub use detectors::derotate;
 pub use filter::Nco;
-pub use lock::Lock;
-pub use octants::octant;
 pub use params::Params;
 pub use state::CostasState;
 pub use state::Reply;

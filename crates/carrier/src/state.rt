@@ -1,9 +1,9 @@
 // The state of the loop, its set-up, reset, setters and readings, from kernels/costas.rs.
-use crate::constellation::CostasConstellation;
 use crate::filter::Nco;
-use crate::lock::Lock;
 use crate::params::Params;
 use crate::symbol::Track;
+use constellations::CostasConstellation;
+use detectors::Lock;
 use values::Refusal;
 ghost use mathlib.Core.Path.{_≡_};
 ghost use Rattle.carrier.specs.State.{paramsOf, fresh, opened, phaseSet, frequencyOf, frequencySet, Given, SetUpGiven};
@@ -47,13 +47,15 @@ fn params_of(loop_bw: f64, damping: f64, max_offset: f64) -> Params
     ensures { λ r. ⌜ r ≡ paramsOf «loop_bw» damping «max_offset» ⌝ }
 {
     let g = crate::params::loop_gains(loop_bw, damping);
+    let single = numbers::narrow(max_offset);
+    let limit = numbers::flush_denormal(single);
     Params {
         loop_bw: loop_bw,
         damping: damping,
         max_offset: max_offset,
         kp: g.kp,
         ki: g.ki,
-        max: numbers::flush_denormal(numbers::narrow(max_offset)),
+        max: limit,
     }
 }
 
@@ -145,7 +147,8 @@ pub fn set_phase(s: CostasState, phase: u32) -> CostasState
 fn frequency_of(freq: f64, max: f32) -> f32
     ensures { λ r. ⌜ r ≡ frequencyOf freq max ⌝ }
 {
-    let f = numbers::flush_denormal(numbers::narrow(freq));
+    let single = numbers::narrow(freq);
+    let f = numbers::flush_denormal(single);
     if f != f {
         0.0
     } else {

@@ -1,8 +1,8 @@
 // One symbol of the loop.
-use crate::constellation::CostasConstellation;
 use crate::filter::Nco;
-use crate::lock::Lock;
 use crate::params::Params;
+use constellations::CostasConstellation;
+use detectors::Lock;
 use values::C32;
 ghost use mathlib.Core.Path.{_≡_};
 ghost use Rattle.carrier.specs.Step.{stepped};
@@ -18,12 +18,12 @@ pub struct Track {
 pub fn step(constellation: CostasConstellation, p: Params, t: Track, y: C32) -> Track
     ensures { λ r. ⌜ r ≡ stepped constellation p t y ⌝ }
 {
-    let d = crate::octants::decide(constellation, y);
-    let e = crate::detection::detector(constellation, y, d);
+    let d = constellations::decide(constellation, y);
+    let e = detectors::detector(constellation, y, d);
     let n = t.nco;
     let nco = crate::filter::advance(p, n, e);
     let k = t.lock;
-    let lock = crate::lock::watch(k, crate::lock::lock_metric(constellation, y, d));
+    let lock = detectors::watch(k, detectors::lock_metric(constellation, y, d));
     Track {
         nco: nco,
         lock: lock,

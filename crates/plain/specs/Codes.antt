@@ -4,8 +4,8 @@ use mathlib.Core.Bool.{cond}
 use lib.Dec.{eqb}
 use Rattle.timing.specs.declared.params.Ted.{Ted}
 use Rattle.timing.specs.declared.params.Ted.the-variants.{Gardner, MuellerMuller}
-use Rattle.carrier.specs.declared.constellation.CostasConstellation.{CostasConstellation}
-use Rattle.carrier.specs.declared.constellation.CostasConstellation.the-variants.{Bpsk, Qpsk, Psk8}
+use Rattle.constellations.specs.declared.kinds.CostasConstellation.{CostasConstellation}
+use Rattle.constellations.specs.declared.kinds.CostasConstellation.the-variants.{Bpsk, Qpsk, Psk8}
 
 abbrev pub detectorOf : ℕ → Ted
 detectorOf code = cond (eqb code 0) Gardner MuellerMuller

@@ -5,7 +5,7 @@ use Rattle.values.specs.declared.progress.Progress.{Progress}
 use Rattle.values.specs.declared.progress.Answer.the-variants.{Done}
 use Rattle.values.specs.Refusal.{numberOf}
 use Rattle.timing.specs.declared.params.Ted.the-variants.{Gardner, MuellerMuller}
-use Rattle.carrier.specs.declared.constellation.CostasConstellation.the-variants.{Bpsk, Qpsk, Psk8}
+use Rattle.constellations.specs.declared.kinds.CostasConstellation.the-variants.{Bpsk, Qpsk, Psk8}
 use Rattle.plain.specs.Codes.{detectorOf, detectorCode, constellationOf, constellationCode}
 use Rattle.values.specs.Counts.{countsOf}
 

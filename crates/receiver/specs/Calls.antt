@@ -12,7 +12,7 @@ use Rattle.values.specs.Calls.{outcomesBy, afterBy}
 use Rattle.values.specs.Turn.{turnsAll, AllTurned}
 use Rattle.timing.specs.Calls.{SameClock}
 use Rattle.complex_sync.specs.Views.{sync}
-use Rattle.carrier.specs.declared.constellation.CostasConstellation.{CostasConstellation}
+use Rattle.constellations.specs.declared.kinds.CostasConstellation.{CostasConstellation}
 use Rattle.carrier.specs.Calls.{turnsLess, SameCarrier}
 use Rattle.receiver.specs.declared.record.Receiver.{Receiver}
 use Rattle.receiver.specs.declared.record.TimingValues.{TimingValues}

@@ -13,8 +13,8 @@ use Rattle.timing.specs.Sample.{complex}
 use Rattle.timing.specs.declared.params.Params.{Params}
 use Rattle.timing.specs.Run as run
 use Rattle.complex_sync.specs.Views.{sync, stateOf}
-use Rattle.carrier.specs.declared.constellation.CostasConstellation.{CostasConstellation}
-use Rattle.carrier.specs.declared.constellation.CostasConstellation.the-variants.{Bpsk}
+use Rattle.constellations.specs.declared.kinds.CostasConstellation.{CostasConstellation}
+use Rattle.constellations.specs.declared.kinds.CostasConstellation.the-variants.{Bpsk}
 use Rattle.carrier.specs.declared.params.Params as carrierParams
 use Rattle.carrier.specs.State as carrier
 use Rattle.receiver.specs.declared.record.Receiver.{Receiver}

@@ -4,9 +4,9 @@ use mathlib.Core.Bool.{_&&_, _||_, cond}
 use lib.Ieee.{lt, eq}
 use Rattle.ieee.specs.Notation.{zero₀}
 use Rattle.values.specs.declared.sample.C32.{C32}
-use Rattle.carrier.specs.declared.constellation.CostasConstellation.{CostasConstellation}
-use Rattle.carrier.specs.declared.constellation.CostasConstellation.the-variants.{Bpsk, Qpsk, Psk8}
-use Rattle.carrier.specs.Octant.{octantOf}
+use Rattle.constellations.specs.declared.kinds.CostasConstellation.{CostasConstellation}
+use Rattle.constellations.specs.declared.kinds.CostasConstellation.the-variants.{Bpsk, Qpsk, Psk8}
+use Rattle.constellations.specs.Octant.{octantOf}
 
 -- "BPSK 1 if re is negative, or zero with im negative, else 0."
 unfoldable pub bpskOf : C32 → ℕ

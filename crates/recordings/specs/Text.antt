@@ -7,7 +7,7 @@ use lib.ListN.{take}
 use lib.Ieee.{Float}
 use Rattle.values.specs.declared.sample.C32.{C32}
 use Rattle.values.specs.Samples.{samples}
-use Rattle.carrier.specs.declared.constellation.CostasConstellation.{CostasConstellation}
+use Rattle.constellations.specs.declared.kinds.CostasConstellation.{CostasConstellation}
 use Rattle.receiver.specs.Symbol.{symbolOf}
 
 -- the digit of a symbol's number, in ASCII

@@ -12,7 +12,7 @@ use Rattle.values.proofs.Laws.Samples.{samples-append}
 use Rattle.values.proofs.Laws.Buffers.{both-even, even-both}
 use Rattle.timing.proofs.Laws.Shown.{twofold, slice-append}
 use Rattle.cosine.specs.Table.{cosList}
-use Rattle.carrier.specs.declared.constellation.CostasConstellation.{CostasConstellation}
+use Rattle.constellations.specs.declared.kinds.CostasConstellation.{CostasConstellation}
 use Rattle.carrier.specs.declared.params.Params.{Params}
 use Rattle.carrier.specs.declared.symbol.Track.{Track}
 use Rattle.carrier.specs.declared.state.CostasState.{CostasState}

@@ -2,8 +2,8 @@
 use mathlib.Core.Path.{refl}
 use lib.Ieee.{ofBits, round, add, sub, mul, div, neg, lt, le}
 use Rattle.ieee.specs.Magnitude.{magnitude}
-use Rattle.carrier.specs.Octant.{octantOf}
-use Rattle.carrier.specs.Lock.{quad, qpskMeasure, measured, metricOf, held}
+use Rattle.constellations.specs.Octant.{octantOf}
+use Rattle.detectors.specs.Lock.{quad, qpskMeasure, measured, metricOf, held}
 use Rattle.carrier.specs.Cases.{Cases}
 
 pub cases : Cases

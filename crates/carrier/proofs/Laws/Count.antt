@@ -9,7 +9,7 @@ use Rattle.values.specs.declared.sample.C32.{C32}
 use Rattle.values.specs.Samples.{samples}
 use Rattle.values.proofs.Laws.Samples.{length-samples, length-parts}
 use Rattle.cosine.specs.Table.{cosList}
-use Rattle.carrier.specs.declared.constellation.CostasConstellation.{CostasConstellation}
+use Rattle.constellations.specs.declared.kinds.CostasConstellation.{CostasConstellation}
 use Rattle.carrier.specs.declared.params.Params.{Params}
 use Rattle.carrier.specs.declared.symbol.Track.{Track}
 use Rattle.carrier.specs.declared.state.CostasState.{CostasState}

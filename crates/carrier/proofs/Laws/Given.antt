@@ -20,13 +20,13 @@ use Rattle.numbers.specs.Range.{limited}
 use Rattle.numbers.proofs.Laws.Denormal.{flush-number}
 use Rattle.numbers.proofs.Laws.Range.{limit-in}
 use Rattle.cosine.specs.Table.{cosList}
-use Rattle.carrier.specs.declared.constellation.CostasConstellation.{CostasConstellation}
+use Rattle.constellations.specs.declared.kinds.CostasConstellation.{CostasConstellation}
 use Rattle.carrier.specs.declared.filter.Nco.{Nco}
 use Rattle.carrier.specs.declared.params.Params.{Params}
 use Rattle.carrier.specs.declared.symbol.Track.{Track}
 use Rattle.carrier.specs.declared.state.CostasState.{CostasState}
-use Rattle.carrier.specs.Octant.{decisionOf}
-use Rattle.carrier.specs.Detector.{detected, calmed, errorOf}
+use Rattle.detectors.specs.Detector.{errorOf}
+use Rattle.detectors.proofs.Laws.Errors.{error-finite}
 use Rattle.carrier.specs.Filter.{newFreq, advanced}
 use Rattle.carrier.specs.Step.{outputOf, stepped, runs}
 use Rattle.carrier.specs.State.{fresh, phaseSet, frequencyOf, frequencySet, Given}
@@ -77,18 +77,6 @@ advanced-kept p n e m z k q h =
     let t = add-number binary32 (n .freq) (mul binary32 (p .ki) e) h (mul-number binary32 (p .ki) e k q) in
     let w = limit-in _ (p .max) (flush-number binary32 _ t) m z in
     record { phase-in = mod-lt _ (lit< tt); freq-low = w .0; freq-high = w .1 }
-
-calmed-finite : (e : Float) → T (finite (calmed e))
-unfolding calmed
-calmed-finite e = go (finite e) (λ t. t)
-  where
-    go : (b : Bool) → (T b → T (finite e)) → T (finite (cond b e zero₀))
-    go true h = h tt
-    go false h = tt
-
-pub error-finite : (c : CostasConstellation) (y : C32) → T (finite (errorOf c y))
-unfolding errorOf
-error-finite c y = calmed-finite (detected c y (decisionOf c y))
 
 pub stepped-kept : (c : CostasConstellation) (p : Params) (t : Track) (y : C32) → Limits p → Kept p (t .nco) → Kept p (stepped c p t y .nco)
 unfolding stepped

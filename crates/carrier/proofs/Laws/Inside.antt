@@ -1,47 +1,47 @@
--- Inside its limit and above the flush threshold a value is neither flushed nor limited. Assumes nothing.
-use mathlib.Core.Path.{_≡_, refl, sym, ap, _∙_, subst}
-use mathlib.Core.Bool.{Bool, true, false, cond}
-use lib.Dec.{T}
-use lib.Ieee.{Float, nan, inf, fin, binary32, neg, le, lt}
-use Rattle.ieee.specs.Notation.{zero₀}
-use Rattle.ieee.proofs.Laws.Algebra.{neg-neg}
-use Rattle.ieee.proofs.Laws.Test.{yes, no}
-use Rattle.ieee.proofs.Laws.Like.{like-refl, like-sym}
-use Rattle.ieee.proofs.Laws.Compare.{like-lt}
-use Rattle.ieee.proofs.Laws.Order.{number, neg-le, lt→le, le→not-lt, not-lt→le, le-trans-float}
-use Rattle.numbers.specs.Denormal.{tiny, flushed}
-use Rattle.numbers.specs.Range.{limited}
-use Rattle.numbers.proofs.Laws.Range.{limit-inside}
-use Rattle.carrier.specs.Octant.{sizeOf}
-use Rattle.carrier.proofs.Laws.Size.{size-alike}
+-- The source's `Internal` errors never occur: in every run from a given state each index lies inside its table. Assumes nothing.
+use mathlib.Core.Path.{_≡_, refl}
+use mathlib.Core.List.{List, [], _∷_}
+use native.Mathlib.Omega.{arith}
+use lib.ListN.{length}
+use lib.Ieee.{Float}
+use Rattle.values.specs.declared.sample.C32.{C32}
+use Rattle.values.specs.Samples.{samples}
+use Rattle.cosine.specs.Bits.{cosBits}
+use Rattle.cosine.specs.Table.{cosList}
+use Rattle.constellations.specs.declared.kinds.CostasConstellation.{CostasConstellation}
+use Rattle.constellations.specs.Octant.{points8}
+use Rattle.constellations.proofs.Laws.Octant.{octant-below}
+use Rattle.carrier.specs.declared.params.Params.{Params}
+use Rattle.carrier.specs.declared.state.CostasState.{CostasState}
+use Rattle.carrier.specs.declared.symbol.Track.{Track}
+use Rattle.carrier.specs.Inside.{Inside, InsideRun}
+use Rattle.carrier.specs.State.{Given}
+use Rattle.carrier.specs.Step.{outputOf, stepped}
+use Rattle.carrier.proofs.Laws.Setup.{Limits, limits}
+use Rattle.carrier.proofs.Laws.Given.{Kept, stepped-kept}
 
--- from the threshold up
-not-flushed : (t : Float) → T (le (tiny binary32) (sizeOf t)) → flushed binary32 t ≡ t
-unfolding flushed
-not-flushed t h = ap (λ (b : Bool). cond b zero₀ t) (like-lt (like-sym (size-alike t)) (like-refl (tiny binary32)) ∙ le→not-lt (tiny binary32) (sizeOf t) h)
+-- ---- the lengths of the tables
+cosines : length cosList ≡ 4097
+unfolding cosList cosBits
+cosines = refl
 
--- what is compared is a number
-le-number : (x y : Float) → T (le x y) → T (number x)
-le-number nan y h = absurd (unfold le in h)
-le-number (inf s) y h = tt
-le-number (fin s m e) y h = tt
+points : length points8 ≡ 8
+unfolding points8
+points = refl
 
--- up to the limit, on both sides
-inside-both : (t l : Float) → T (le (sizeOf t) l) → T (le (neg l) t) × T (le t l)
-unfolding sizeOf
-inside-both t l = go (lt t zero₀) refl
-  where
-    go : (b : Bool) → lt t zero₀ ≡ b → T (le (cond b (neg t) t) l) → T (le (neg l) t) × T (le t l)
-    go true e h =
-        let below = lt→le t zero₀ (yes e) in
-        let size = le-trans-float zero₀ (neg zero₀) (neg t) (unfold le neg in tt) (neg-le t zero₀ below) in
-        (subst (λ (x : Float). T (le (neg l) x)) (neg-neg t) (neg-le (neg t) l h), le-trans-float t zero₀ l below (le-trans-float zero₀ (neg t) l size h))
-    go false e h =
-        let above = not-lt→le t zero₀ (le-number t l h) tt (no e) in
-        let limit = le-trans-float (neg l) (neg zero₀) zero₀ (neg-le zero₀ l (le-trans-float zero₀ t l above h)) (unfold le neg in tt) in
-        (le-trans-float (neg l) zero₀ t limit above, h)
+-- ---- a symbol, then a run
+kept-inside : (p : Params) (t : Track) (x : C32) → Kept p (t .nco) → Inside t x
+kept-inside p t x k =
+    record {
+      cosine = omega (arith, cosines, k .phase-in);
+      sine = omega (arith, cosines, k .phase-in);
+      point = omega (arith, points, octant-below (outputOf cosList t x));
+    }
 
-pub kept-inside : (t limit : Float) {a : Float} → a ≡ sizeOf t → le a limit ≡ true → le (tiny binary32) a ≡ true → t ≡ limited (flushed binary32 t) limit
-kept-inside t limit e h k =
-    let b = inside-both t limit (yes (ap (λ (x : Float). le x limit) (sym e) ∙ h)) in
-    sym (ap (λ (x : Float). limited x limit) (not-flushed t (yes (ap (le (tiny binary32)) (sym e) ∙ k))) ∙ limit-inside t limit (b .0) (b .1))
+runs-inside : (c : CostasConstellation) (p : Params) (t : Track) (xs : List C32) → Limits p → Kept p (t .nco) → InsideRun c p t xs
+unfolding InsideRun
+runs-inside c p t [] l k = tt
+runs-inside c p t (x ∷ xs) l k = let y = outputOf cosList t x in (kept-inside p t x k, runs-inside c p (stepped c p t y) xs l (stepped-kept c p t y l k))
+
+pub inside : (s : CostasState) → Given s → (xs : List Float) → InsideRun (s .constellation) (s .params) (s .track) (samples xs)
+inside s g xs = runs-inside (s .constellation) (s .params) (s .track) (samples xs) (limits (s .constellation) (s .params) (g .accepted)) (record { phase-in = g .phase-in; freq-low = g .freq-low; freq-high = g .freq-high })

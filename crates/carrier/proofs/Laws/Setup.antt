@@ -15,7 +15,7 @@ use Rattle.checks.specs.Table.{Passed, Exactly}
 use Rattle.checks.proofs.Laws.Rows.{first-passed, first-none}
 use Rattle.checks.proofs.Laws.Exactly.{exactly, accepted-is}
 use Rattle.checks.proofs.Laws.Ranges.{in-span}
-use Rattle.carrier.specs.declared.constellation.CostasConstellation.{CostasConstellation}
+use Rattle.constellations.specs.declared.kinds.CostasConstellation.{CostasConstellation}
 use Rattle.carrier.specs.declared.params.Params.{Params}
 use Rattle.carrier.specs.declared.state.CostasState.{CostasState}
 use Rattle.carrier.specs.declared.state.SetUp.the-variants.{Ready, Refused}

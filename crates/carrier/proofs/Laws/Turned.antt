@@ -1,6 +1,6 @@
 -- Document 01's claim on turned recordings, for the carrier alone: turned inputs and a phase set by quarters give the same numbers, frequency, level and lock, and turned outputs, over a list of calls of any length. Assumes nothing.
 use mathlib.Core.Path.{_≡_, refl, sym, ap₂, subst}
-use Prim.Native.Nat.{ℕ, _+_, _-_, _*_, _%_, _^_, _≤_}
+use Prim.Native.Nat.{ℕ, _+_, _*_, _%_, _^_, _≤_}
 use native.Mathlib.Omega.{arith}
 use mathlib.Core.Bool.{Bool, true, false, not, _&&_, _||_, cond}
 use mathlib.Core.List.{List}
@@ -11,7 +11,7 @@ use Rattle.ieee.specs.Notation.{zero₀}
 use Rattle.ieee.proofs.Laws.Like.{like-refl}
 use Rattle.values.specs.declared.sample.C32.{C32}
 use Rattle.values.specs.declared.error.Refusal.the-variants.{Uneven, Odd}
-use Rattle.values.specs.Samples.{samples, parts}
+use Rattle.values.specs.Samples.{samples}
 use Rattle.lists.specs.Each.{Each, none, more}
 use Rattle.values.specs.Turn.{AllTurned, Turned}
 use Rattle.values.proofs.Laws.Calls.{lists-keep}
@@ -19,13 +19,13 @@ use Rattle.values.proofs.Laws.Samples.{samples-parts}
 use Rattle.values.proofs.Laws.Turn.{turned-mod}
 use Rattle.values.specs.Buffers.{oddEither}
 use Rattle.values.specs.TurnedCall.{Call, TurnedCall}
-use Rattle.carrier.specs.declared.constellation.CostasConstellation.{CostasConstellation}
+use Rattle.constellations.specs.declared.kinds.CostasConstellation.{CostasConstellation}
 use Rattle.carrier.specs.declared.params.Params.{Params}
 use Rattle.carrier.specs.declared.state.CostasState.{CostasState}
-use Rattle.carrier.specs.Step.{Symbols}
 use Rattle.carrier.specs.State.{fresh, phaseSet}
 use Rattle.carrier.specs.Run.{Outcome, turnedAway, symbols, done, called}
-use Rattle.carrier.specs.Calls.{callOf, leftBy, whole, Allowed, turnsLess, TurnedOutcome, SameCarrier, TurnedList}
+use Rattle.detectors.specs.Turns.{Allowed}
+use Rattle.carrier.specs.Calls.{callOf, leftBy, whole, turnsLess, TurnedOutcome, SameCarrier, TurnedList}
 use Rattle.carrier.proofs.Laws.TurnedRun.{Tied, TiedSymbols, tied-runs}
 
 -- a call keeps the constellation

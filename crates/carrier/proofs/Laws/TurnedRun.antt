@@ -1,15 +1,11 @@
 -- The carrier loop on a turned recording, from one symbol to a whole run: frequency, level and lock stay the same, the phase stays m quarters on, and each output is turned. Assumes nothing.
-use mathlib.Core.Path.{_≡_, refl, ap, ap₂, _∙_}
+use mathlib.Core.Path.{_≡_, ap₂, _∙_}
 use Prim.Native.Nat.{ℕ, _+_, _*_, _%_, _^_, _<_}
 use native.Mathlib.Omega.{arith}
-use mathlib.Core.Bool.{Bool, cond}
 use mathlib.Core.List.{List}
 use lib.Ieee.{Float, binary32}
-use lib.Ieee.Scale.{finite}
 use Rattle.ieee.specs.Alike.{Alike}
-use Rattle.ieee.specs.Notation.{zero₀, half₀, decimal}
-use Rattle.ieee.proofs.Laws.Like.{like-refl, like-add, like-sub, like-mul-r}
-use Rattle.ieee.proofs.Laws.Compare.{like-lt, like-cond, like-finite}
+use Rattle.ieee.proofs.Laws.Like.{like-refl, like-add, like-mul-r}
 use Rattle.values.specs.declared.sample.C32.{C32}
 use Rattle.lists.specs.Each.{none, more}
 use Rattle.values.specs.Turn.{Turned, AllTurned}
@@ -20,21 +16,18 @@ use Rattle.mix.specs.Oscillator.{pairAt}
 use Rattle.mix.specs.Quarter.{quartersOn}
 use Rattle.mix.proofs.Laws.Cosine.{cosine-quarter-turns}
 use Rattle.modulate.proofs.Laws.Zeros.{same-step}
-use Rattle.carrier.specs.declared.constellation.CostasConstellation.{CostasConstellation}
+use Rattle.constellations.specs.declared.kinds.CostasConstellation.{CostasConstellation}
 use Rattle.carrier.specs.declared.params.Params.{Params}
 use Rattle.carrier.specs.declared.filter.Nco.{Nco}
-use Rattle.carrier.specs.declared.lock.Lock.{Lock}
-use Rattle.carrier.specs.declared.lock.Metric.{Metric}
-use Rattle.carrier.specs.declared.lock.Metric.the-variants.{Number, Nothing}
 use Rattle.carrier.specs.declared.symbol.Track.{Track}
-use Rattle.carrier.specs.Octant.{decisionOf}
-use Rattle.carrier.specs.Detector.{derotated, calmed, errorOf}
-use Rattle.carrier.specs.Lock.{metricOf, smoothed, held, watched}
+use Rattle.constellations.specs.Octant.{decisionOf}
+use Rattle.detectors.specs.Lock.{metricOf}
 use Rattle.carrier.specs.Filter.{newFreq, advanced}
 use Rattle.carrier.specs.Step.{stepped, outputOf, Symbols, runs}
-use Rattle.carrier.specs.Calls.{Allowed}
-use Rattle.carrier.proofs.Laws.Derotation.{turned-derotated}
-use Rattle.carrier.proofs.Laws.Turning.{turned-detected, same-measured}
+use Rattle.detectors.specs.Turns.{Allowed}
+use Rattle.detectors.proofs.Laws.Derotation.{turned-derotated}
+use Rattle.detectors.proofs.Laws.Errors.{turned-error}
+use Rattle.detectors.proofs.Laws.Levels.{AlikeLock, same-metric, alike-watched}
 
 -- the oscillator o is n, m quarters on
 pub record TiedNco (m : ℕ) (n o : Nco) : Type 0 where
@@ -42,20 +35,12 @@ pub record TiedNco (m : ℕ) (n o : Nco) : Type 0 where
   pub phase : o .phase ≡ quartersOn m (n .phase)
   pub freq : Alike (o .freq) (n .freq)
 
-pub record AlikeLock (k l : Lock) : Type 0 where
-  pub level : Alike (l .level) (k .level)
-  pub locked : l .locked ≡ k .locked
-
 -- t is s on the turned recording, m quarters on
 pub record Tied (m : ℕ) (s t : Track) : Type 0 where
   pub nco : TiedNco m (s .nco) (t .nco)
   pub lock : AlikeLock (s .lock) (t .lock)
 
 -- ---- the loop filter, of errors that are alike
-alike-calmed : {a b : Float} → Alike a b → Alike (calmed a) (calmed b)
-unfolding calmed
-alike-calmed p = like-cond (like-finite p) p (like-refl zero₀)
-
 module _ (p : Params) {a b : Float} (e : Alike b a) where
   alike-freq : {f g : Float} → Alike g f → Alike (newFreq p g b) (newFreq p f a)
   unfolding newFreq
@@ -71,20 +56,6 @@ module _ (p : Params) {a b : Float} (e : Alike b a) where
       on : (x m i : ℕ) → ((x + m * 2 ^ 30) % 2 ^ 32 + i) % 2 ^ 32 ≡ ((x + i) % 2 ^ 32 + m * 2 ^ 30) % 2 ^ 32
       on x m i = omega arith
 
--- ---- the lock detector, of the same measure
-alike-smoothed : {l k : Float} (m : Float) → Alike l k → Alike (smoothed l m) (smoothed k m)
-unfolding smoothed
-alike-smoothed m p = like-flush binary32 (like-add binary32 p (like-mul-r binary32 (like-refl (decimal binary32 1 100)) (like-sub binary32 (like-refl m) p)))
-
-same-held : {a b : Bool} {l k : Float} → a ≡ b → Alike l k → held a l ≡ held b k
-unfolding held
-same-held e p = rw (e, like-lt (like-refl half₀) p, like-lt p (like-refl (decimal binary32 3 10)))
-
-alike-watched : {k l : Lock} (m : Metric) → AlikeLock k l → AlikeLock (watched k m) (watched l m)
-unfolding watched
-alike-watched (Number m) h = let l = alike-smoothed m (h .level) in record { level = l; locked = same-held (h .locked) l }
-alike-watched Nothing h = h
-
 -- the symbols r are q on a recording turned k times, m quarters on
 pub record TiedSymbols (k m : ℕ) (q r : Symbols) : Type 0 where
   pub values : AllTurned (k + 3 * m) (q .values) (r .values)
@@ -92,15 +63,11 @@ pub record TiedSymbols (k m : ℕ) (q r : Symbols) : Type 0 where
 
 -- ---- a symbol
 module _ (c : CostasConstellation) (p : Params) (k m : ℕ) (a : Allowed c k m) where
-  same-metric : (y : C32) {v : C32} → Turned (k + 3 * m) y v → metricOf c v (decisionOf c v) ≡ metricOf c y (decisionOf c y)
-  unfolding metricOf
-  same-metric y h = ap (λ (x : Float). cond (finite x) (Number x) Nothing) (same-measured c k m a y h)
-
   tied-stepped : {s t : Track} (y : C32) {v : C32} → Tied m s t → Turned (k + 3 * m) y v → Tied m (stepped c p s y) (stepped c p t v)
-  unfolding stepped errorOf
+  unfolding stepped
   tied-stepped {s} {t} y h q = record {
-    nco = tied-advanced p (alike-calmed (turned-detected c k m a y q)) (h .nco);
-    lock = rw (same-metric y q) (alike-watched (metricOf c y (decisionOf c y)) (h .lock));
+    nco = tied-advanced p (turned-error c k m a y q) (h .nco);
+    lock = rw (same-metric c k m a y q) (alike-watched (metricOf c y (decisionOf c y)) (h .lock));
   }
 
   turned-output : {s t : Track} (x : C32) {w : C32} → Tied m s t → Turned k x w → Turned (k + 3 * m) (outputOf cosList s x) (outputOf cosList t w)

@@ -14,7 +14,7 @@ use Rattle.values.specs.declared.sample.C32.{C32}
 use Rattle.values.specs.Samples.{silence, samples, parts, stored}
 use Rattle.values.specs.Buffers.{written}
 use Rattle.values.proofs.Laws.Samples.{length-samples, samples-take, length-parts, stored-sets, parts-none, parts-some}
-use Rattle.carrier.specs.declared.constellation.CostasConstellation.{CostasConstellation}
+use Rattle.constellations.specs.declared.kinds.CostasConstellation.{CostasConstellation}
 use Rattle.carrier.specs.declared.params.Params.{Params}
 use Rattle.carrier.specs.declared.symbol.Track.{Track}
 use Rattle.carrier.specs.Step.{stepped, outputOf, Symbols, runs}

@@ -8,8 +8,8 @@ use Rattle.values.specs.declared.error.Refusal.the-variants.{Pace, Width, Dampi
 use Rattle.values.specs.Refusal.{numberOf}
 use Rattle.timing.specs.declared.params.Ted.{Ted}
 use Rattle.timing.specs.declared.params.Ted.the-variants.{Gardner, MuellerMuller}
-use Rattle.carrier.specs.declared.constellation.CostasConstellation.{CostasConstellation}
-use Rattle.carrier.specs.declared.constellation.CostasConstellation.the-variants.{Bpsk, Qpsk, Psk8}
+use Rattle.constellations.specs.declared.kinds.CostasConstellation.{CostasConstellation}
+use Rattle.constellations.specs.declared.kinds.CostasConstellation.the-variants.{Bpsk, Qpsk, Psk8}
 use Rattle.plain.specs.Codes.{detectorOf, detectorCode, constellationOf, constellationCode}
 
 -- ---- detectors

@@ -1,7 +1,7 @@
 -- The carrier loop's record stands for its state faithfully. Assumes nothing.
 use mathlib.Core.Path.{_≡_, ap, sym, subst}
 use Prim.Native.Nat.{ℕ}
-use Rattle.carrier.specs.declared.constellation.CostasConstellation.{CostasConstellation}
+use Rattle.constellations.specs.declared.kinds.CostasConstellation.{CostasConstellation}
 use Rattle.carrier.specs.declared.state.CostasState.{CostasState}
 use Rattle.carrier.specs.State as carrier
 use Rattle.plain_carrier.specs.declared.Carrier.{Carrier}

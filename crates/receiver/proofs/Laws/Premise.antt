@@ -30,9 +30,9 @@ use Rattle.timing.specs.Part.{interpolated}
 use Rattle.timing.specs.Clock.{lacking}
 use Rattle.timing.specs.Loop.{midTaken, valueAt, runs}
 use Rattle.timing.specs.Run.{ran}
-use Rattle.carrier.specs.declared.constellation.CostasConstellation.the-variants.{Bpsk}
+use Rattle.constellations.specs.declared.kinds.CostasConstellation.the-variants.{Bpsk}
 use Rattle.carrier.specs.Gains as carrierGains
-use Rattle.carrier.specs.Detector.{derotated, detected, calmed, errorOf}
+use Rattle.detectors.specs.Detector.{derotated, detected, calmed, errorOf}
 use Rattle.carrier.specs.Filter.{newFreq, advanced}
 use Rattle.carrier.specs.Step.{stepped}
 use Rattle.carrier.specs.Step as carrierStep

@@ -19,7 +19,7 @@ use Rattle.timing.specs.Run.{Sync, openedBy}
 use Rattle.timing.specs.Run as run
 use Rattle.complex_sync.specs.declared.state.SymbolSyncState.{SymbolSyncState}
 use Rattle.complex_sync.specs.Views.{sync, stateOf}
-use Rattle.carrier.specs.declared.constellation.CostasConstellation.{CostasConstellation}
+use Rattle.constellations.specs.declared.kinds.CostasConstellation.{CostasConstellation}
 use Rattle.carrier.specs.declared.state.SetUp as carrierAnswer
 use Rattle.carrier.specs.declared.state.SetUp.the-variants as carrierSetUp
 use Rattle.carrier.specs.State as carrier

@@ -12,9 +12,9 @@ use Rattle.ieee.proofs.Laws.Compare.{like-lt, like-eq}
 use Rattle.values.specs.declared.sample.C32.{C32}
 use Rattle.values.specs.Samples.{silence}
 use Rattle.values.specs.Turn.{AlikeSample}
-use Rattle.carrier.specs.declared.constellation.CostasConstellation.{CostasConstellation}
-use Rattle.carrier.specs.declared.constellation.CostasConstellation.the-variants.{Bpsk, Qpsk, Psk8}
-use Rattle.carrier.proofs.Laws.Octant.{octant-alike, octant-below, octant-silence}
+use Rattle.constellations.specs.declared.kinds.CostasConstellation.{CostasConstellation}
+use Rattle.constellations.specs.declared.kinds.CostasConstellation.the-variants.{Bpsk, Qpsk, Psk8}
+use Rattle.constellations.proofs.Laws.Octant.{octant-alike, octant-below, octant-silence}
 use Rattle.receiver.specs.Symbol.{bpskOf, symbolOf}
 
 -- as many as the constellation has points

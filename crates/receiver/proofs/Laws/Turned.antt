@@ -28,11 +28,11 @@ use Rattle.timing.proofs.Laws.Turned.{written-back, same-clock}
 use Rattle.timing.proofs.Laws.Turned as timing
 use Rattle.complex_sync.specs.Views.{sync}
 use Rattle.cosine.specs.Table.{cosList}
-use Rattle.carrier.specs.declared.constellation.CostasConstellation.{CostasConstellation}
+use Rattle.constellations.specs.declared.kinds.CostasConstellation.{CostasConstellation}
 use Rattle.carrier.specs.declared.params.Params as carrierParams
 use Rattle.carrier.specs.Run.{symbols}
 use Rattle.carrier.specs.Run as carrierRun
-use Rattle.carrier.specs.Calls.{Allowed}
+use Rattle.detectors.specs.Turns.{Allowed}
 use Rattle.carrier.proofs.Laws.Count.{runs-count}
 use Rattle.carrier.proofs.Laws.Turned.{TiedState, same-carrier}
 use Rattle.carrier.proofs.Laws.Turned as carrier

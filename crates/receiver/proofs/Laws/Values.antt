@@ -9,7 +9,7 @@ use lib.Ieee.{Float}
 use Rattle.values.specs.declared.error.Refusal.the-variants.{Uneven, Odd}
 use Rattle.values.specs.Calls.{afterBy}
 use Rattle.timing.specs.Run.{ran}
-use Rattle.carrier.specs.declared.constellation.CostasConstellation.{CostasConstellation}
+use Rattle.constellations.specs.declared.kinds.CostasConstellation.{CostasConstellation}
 use Rattle.receiver.specs.declared.record.Receiver.{Receiver}
 use Rattle.receiver.specs.declared.record.TimingValues.{TimingValues}
 use Rattle.receiver.specs.declared.record.CarrierValues.{CarrierValues}

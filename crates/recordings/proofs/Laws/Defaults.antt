@@ -6,7 +6,7 @@ use Rattle.checks.specs.Table.{firstOf}
 use Rattle.gains.specs.Quotients.{theta, divisor, proportional, integral}
 use Rattle.timing.specs.Gains.{kpOf, kiOf}
 use Rattle.timing.specs.declared.params.Ted.{Ted}
-use Rattle.carrier.specs.declared.constellation.CostasConstellation.{CostasConstellation}
+use Rattle.constellations.specs.declared.kinds.CostasConstellation.{CostasConstellation}
 use Rattle.receiver.specs.declared.record.SetUp.the-variants.{Ready}
 use Rattle.receiver.specs.Record.{timingParams, carrierParamsOf, fresh, opened}
 use Rattle.recordings.specs.Defaults.{timingDefaults, carrierDefaults}

@@ -9,8 +9,8 @@ use lib.Ieee.{Float}
 use Rattle.values.specs.declared.sample.C32.{C32}
 use Rattle.values.specs.Samples.{silence, samples}
 use Rattle.values.proofs.Laws.Samples.{length-samples}
-use Rattle.carrier.specs.declared.constellation.CostasConstellation.{CostasConstellation}
-use Rattle.carrier.specs.declared.constellation.CostasConstellation.the-variants.{Bpsk, Qpsk, Psk8}
+use Rattle.constellations.specs.declared.kinds.CostasConstellation.{CostasConstellation}
+use Rattle.constellations.specs.declared.kinds.CostasConstellation.the-variants.{Bpsk, Qpsk, Psk8}
 use Rattle.receiver.specs.Symbol.{symbolOf}
 use Rattle.receiver.proofs.Laws.Symbol.{symbol-below}
 use Rattle.recordings.specs.Text.{digitOf, digits}

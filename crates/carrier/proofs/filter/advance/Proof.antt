@@ -3,7 +3,7 @@ use mathlib.Core.Path.{sym, _∙_}
 use mathlib.Core.Bool.{Bool, cond}
 use lib.Ieee.{Float}
 use Rattle.ieee.specs.Notation.{zero₀}
-use Rattle.carrier.specs.Detector.{calmed}
+use Rattle.detectors.specs.Detector.{calmed}
 use Rattle.carrier.specs.Filter.{advanced}
 use borrow.Author.Needs.{needs}
 use Rattle.carrier.proofs.filter.advance.Statement.{statement}

@@ -2,11 +2,11 @@
 use mathlib.Core.Path.{ap, _∙_}
 use lib.Ieee.{Float, ofBits, round}
 use Rattle.numbers.specs.Range.{limited}
-use Rattle.carrier.proofs.Laws.Inside.{kept-inside}
+use Rattle.carrier.proofs.Laws.Untouched.{kept-inside}
 use borrow.Author.Needs.{needs}
 use Rattle.carrier.proofs.filter.integrate.Statement.{statement}
 use Rattle.carrier.proofs.filter.integrate.Tie as tie
-use Rattle.carrier.proofs.octants.size.Reads as size-reads
+use Rattle.constellations.proofs.size.Reads as size-reads
 use Rattle.numbers.proofs.flush_denormal.Reads as flush-denormal-reads
 use Rattle.numbers.proofs.limit_f32.Reads as limit-f32-reads
 

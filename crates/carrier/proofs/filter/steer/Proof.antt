@@ -24,7 +24,7 @@ wrapping-add-u32-requires c κs = search needs
 returns : tie.Need-returns
 unfolding newFreq advanced
 returns c =
-    let a = c .before .before .before .before .before .before .args in
+    let a = c .before .before .before .before .before .args in
     let f = c .before .before .before .integrate .ensures in
     let s = c .before .phase-step-f32 .ensures ∙ ap (λ (x : Float). phaseStep (x ⊕ a .p .kp ⊗ a .e)) f in
     let p = c .wrapping-add-u32 .ensures ∙ ap (λ (i : ℕ). (a .n .phase + i) % 2 ^ 32) s in

@@ -1,18 +1,18 @@
 -- `carrier::step` meets its contract, by what its callees ensure. Assumes nothing.
 use mathlib.Core.Path.{ap, _∙_}
 use lib.Ieee.{Float}
-use Rattle.carrier.specs.Detector.{detected, calmed, errorOf}
-use Rattle.carrier.specs.Lock.{metricOf, watched}
+use Rattle.detectors.specs.Detector.{detected, calmed, errorOf}
+use Rattle.detectors.specs.Lock.{metricOf, watched}
 use Rattle.carrier.specs.Filter.{advanced}
 use Rattle.carrier.specs.Step.{stepped}
 use borrow.Author.Needs.{needs}
 use Rattle.carrier.proofs.symbol.step.Statement.{statement}
 use Rattle.carrier.proofs.symbol.step.Tie as tie
-use Rattle.carrier.proofs.detection.detector.Reads as detector-reads
+use Rattle.detectors.proofs.detector.Reads as detector-reads
 use Rattle.carrier.proofs.filter.advance.Reads as advance-reads
-use Rattle.carrier.proofs.lock.lock_metric.Reads as lock-metric-reads
-use Rattle.carrier.proofs.lock.watch.Reads as watch-reads
-use Rattle.carrier.proofs.octants.decide.Reads as decide-reads
+use Rattle.detectors.proofs.lock_metric.Reads as lock-metric-reads
+use Rattle.detectors.proofs.watch.Reads as watch-reads
+use Rattle.constellations.proofs.decide.Reads as decide-reads
 
 decide-requires : tie.Need-decide-requires
 decide-requires c κs = search needs

@@ -7,7 +7,7 @@ use lib.ListN.{length, take}
 use Rattle.carrier.specs.declared.symbol.Track.{Track}
 use Rattle.carrier.specs.declared.state.CostasState.{CostasState}
 use Rattle.carrier.specs.State.{Given}
-use Rattle.carrier.specs.Detector.{derotated}
+use Rattle.detectors.specs.Detector.{derotated}
 use Rattle.carrier.proofs.Laws.Given.{done-given}
 use Rattle.costas.proofs.Laws.Loop.{Underway, held, held-read, begins, goes-on, ends}
 use Rattle.costas.proofs.symbols.carry.Statement.{statement}

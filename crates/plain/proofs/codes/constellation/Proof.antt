@@ -3,8 +3,8 @@ use mathlib.Core.Path.{sym, ap}
 use mathlib.Core.Bool.{Bool, cond}
 use lib.Dec.{eqb}
 use borrow.Author.Tests.{eq-eqb, ne-eqb}
-use Rattle.carrier.specs.declared.constellation.CostasConstellation.{CostasConstellation}
-use Rattle.carrier.specs.declared.constellation.CostasConstellation.the-variants.{Bpsk, Qpsk, Psk8}
+use Rattle.constellations.specs.declared.kinds.CostasConstellation.{CostasConstellation}
+use Rattle.constellations.specs.declared.kinds.CostasConstellation.the-variants.{Bpsk, Qpsk, Psk8}
 use Rattle.plain.proofs.codes.constellation.Statement.{statement}
 use Rattle.plain.proofs.codes.constellation.Tie as tie
 

@@ -1,6 +1,6 @@
 -- `train_receiver::carrier_loop::trr_carrier_set_up` meets its contract: the set-up's answer, with the code's constellation. Assumes nothing.
 use mathlib.Core.Path.{ap, _∙_}
-use Rattle.carrier.specs.declared.constellation.CostasConstellation.{CostasConstellation}
+use Rattle.constellations.specs.declared.kinds.CostasConstellation.{CostasConstellation}
 use Rattle.carrier.specs.declared.state.SetUp.{SetUp}
 use Rattle.carrier.specs.State.{opened}
 use Rattle.plain_carrier.specs.Carrier.{setUpOf}

@@ -1,0 +1,39 @@
+-- `detectors::watch` meets its contract: by the measure, a number or none. Assumes nothing.
+use mathlib.Core.Path.{sym, _∙_}
+use lib.Ieee.{Float, ofBits, round}
+use Rattle.detectors.specs.declared.lock.Lock.{Lock}
+use Rattle.detectors.specs.Lock.{smoothed, held, watched}
+use borrow.Author.Needs.{needs}
+use Rattle.detectors.proofs.lock.watch.Statement.{statement}
+use Rattle.detectors.proofs.lock.watch.Tie as tie
+use Rattle.detectors.proofs.lock.hold.Reads as hold-reads
+use Rattle.numbers.proofs.flush_denormal.Reads as flush-denormal-reads
+
+-- the lock detector at a level
+abbrev at : Lock → Float → Lock
+at k l = record { level = l; locked = held (k .locked) l }
+
+enum-known-m : tie.Need-enum-known-m
+enum-known-m c = search needs
+
+flush-denormal-requires : tie.Need-flush-denormal-requires
+flush-denormal-requires c κs = search needs
+
+hold-requires : tie.Need-hold-requires
+hold-requires c κs = search needs
+
+enum-told : tie.Need-enum-told
+enum-told c = search needs
+
+returns : tie.Need-returns
+unfolding watched smoothed ofBits round
+returns c = let a = c .before .before .before .before .before .before .before .args in (λ j. record { level = c .before .flush-denormal .result; locked = c .hold .ensures j }) ∙ (λ j. at (a .k) (c .before .flush-denormal .ensures j)) ∙ (λ j. watched (a .k) (sym (c .before .before .before .before .before .m .given .1) j))
+
+returns-2 : tie.Need-returns-2
+unfolding watched
+returns-2 c = let a = c .before .before .args in λ j. watched (a .k) (sym (c .enum-told .given .1) j)
+
+pub watch-spec : {M : Type 1} → statement M
+watch-spec =
+    tie.close
+    (tie.spec enum-known-m flush-denormal-requires hold-requires enum-told returns returns-2)

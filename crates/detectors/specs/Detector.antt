@@ -1,0 +1,27 @@
+-- "Output (re × c + im × s, im × c - re × s). Error of output (p, q), 0 if not finite: …" In f32. Definitions only.
+use mathlib.Core.Bool.{cond}
+use lib.Ieee.{Float}
+use lib.Ieee.Scale.{finite}
+use Rattle.ieee.specs.Notation.{zero₀, _⊕_, _⊖_, _⊗_}
+use Rattle.values.specs.declared.sample.C32.{C32}
+use Rattle.numbers.specs.Sign.{signOf}
+use Rattle.mix.specs.declared.oscillator.Pair.{Pair}
+use Rattle.constellations.specs.declared.kinds.CostasConstellation.{CostasConstellation}
+use Rattle.constellations.specs.declared.kinds.CostasConstellation.the-variants.{Bpsk, Qpsk, Psk8}
+use Rattle.constellations.specs.Octant.{decisionOf}
+
+unfoldable pub derotated : C32 → Pair → C32
+derotated x q = record { re = x .re ⊗ q .c ⊕ x .im ⊗ q .s; im = x .im ⊗ q .c ⊖ x .re ⊗ q .s }
+
+-- "BPSK p × q; QPSK sign(p) × q - sign(q) × p; 8-PSK q × dr - p × di"
+unfoldable pub detected : CostasConstellation → C32 → C32 → Float
+detected Bpsk y d = y .re ⊗ y .im
+detected Qpsk y d = signOf (y .re) ⊗ y .im ⊖ signOf (y .im) ⊗ y .re
+detected Psk8 y d = y .im ⊗ d .re ⊖ y .re ⊗ d .im
+
+-- "0 if not finite"
+unfoldable pub calmed : Float → Float
+calmed e = cond (finite e) e zero₀
+
+unfoldable pub errorOf : CostasConstellation → C32 → Float
+errorOf c y = calmed (detected c y (decisionOf c y))

@@ -1,0 +1,3 @@
+pub mod Detector
+pub mod Lock
+pub mod Turns

@@ -1,0 +1,63 @@
+-- "The lock measure is a finite number or none. With a = p × p, b = q × q, t = a + b, g = a - b: …" and what it does to level and lock. In f32. Definitions only.
+use mathlib.Core.Bool.{Bool, true, false, cond}
+use lib.Ieee.{Float, binary32, lt}
+use lib.Ieee.Scale.{finite}
+use Rattle.ieee.specs.Notation.{_⊕_, _⊖_, _⊗_, _⊘_, half₀, one₀, two₀, four₀, eight₀, decimal}
+use Rattle.values.specs.declared.sample.C32.{C32}
+use Rattle.numbers.specs.Denormal.{flushed}
+use Rattle.constellations.specs.declared.kinds.CostasConstellation.{CostasConstellation}
+use Rattle.constellations.specs.declared.kinds.CostasConstellation.the-variants.{Bpsk, Qpsk, Psk8}
+use Rattle.detectors.specs.declared.lock.Metric.{Metric}
+use Rattle.detectors.specs.declared.lock.Metric.the-variants.{Number, Nothing}
+use Rattle.detectors.specs.declared.lock.Lock.{Lock}
+
+abbrev pub square : Float → Float
+square x = x ⊗ x
+
+-- ---- the measures
+-- "BPSK g / t"
+unfoldable pub bpskMeasure : C32 → Float
+bpskMeasure y = let a = square (y .re) in let b = square (y .im) in (a ⊖ b) ⊘ (a ⊕ b)
+
+-- "QPSK ((4 × a) × b - g × g) / (t × t)"
+unfoldable pub quad : Float → Float → Float
+quad a b = ((four₀ ⊗ a) ⊗ b ⊖ square (a ⊖ b)) ⊘ square (a ⊕ b)
+
+unfoldable pub qpskMeasure : C32 → Float
+qpskMeasure y = quad (square (y .re)) (square (y .im))
+
+-- "8-PSK r = p × dr + q × di, u = ((r × r) / t) × 2 - 1, w = u × u, ((8 × w) × (w - 1)) + 1"
+unfoldable pub along : C32 → C32 → Float
+along y d = y .re ⊗ d .re ⊕ y .im ⊗ d .im
+
+unfoldable pub fourfold : Float → Float → Float
+fourfold rr t =
+    let u = (rr ⊘ t) ⊗ two₀ ⊖ one₀ in
+    let w = u ⊗ u in
+    (eight₀ ⊗ w) ⊗ (w ⊖ one₀) ⊕ one₀
+
+unfoldable pub psk8Measure : C32 → C32 → Float
+psk8Measure y d = fourfold (square (along y d)) (square (y .re) ⊕ square (y .im))
+
+unfoldable pub measured : CostasConstellation → C32 → C32 → Float
+measured Bpsk y d = bpskMeasure y
+measured Qpsk y d = qpskMeasure y
+measured Psk8 y d = psk8Measure y d
+
+-- "a finite number or none"
+unfoldable pub metricOf : CostasConstellation → C32 → C32 → Metric
+metricOf c y d = let m = measured c y d in cond (finite m) (Number m) Nothing
+
+-- ---- level and lock
+-- "level = flush(level + 0.01 × (m - level)), all f32"
+unfoldable pub smoothed : Float → Float → Float
+smoothed level m = flushed binary32 (level ⊕ decimal binary32 1 100 ⊗ (m ⊖ level))
+
+-- "above 0.5 sets lock, below 0.3 clears it"
+unfoldable pub held : Bool → Float → Bool
+held was level = cond (lt half₀ level) true (cond (lt level (decimal binary32 3 10)) false was)
+
+-- "A number m gives level …. None leaves both."
+unfoldable pub watched : Lock → Metric → Lock
+watched k (Number m) = let l = smoothed (k .level) m in record { level = l; locked = held (k .locked) l }
+watched k Nothing = k
