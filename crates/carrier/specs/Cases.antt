@@ -9,7 +9,7 @@ use Rattle.constellations.specs.declared.kinds.CostasConstellation.the-variants
 use Rattle.detectors.specs.declared.lock.Metric.{Metric}
 use Rattle.detectors.specs.declared.lock.Metric.the-variants.{Number, Nothing}
 use Rattle.constellations.specs.Octant.{octantOf, decisionOf}
-use Rattle.detectors.specs.Lock.{metricOf, held}
+use Rattle.detectors.specs.Lock.{metricOf, lockAfter}
 
 -- (1, 1) and (0, 1)
 abbrev diagonal : C32
@@ -38,10 +38,10 @@ pub record Cases : Type 0 where
   -- "silence: none"
   pub qpsk-silence : qpskMetric silence ≡ Nothing
   -- "Level 0.5 sets no lock"
-  pub half-keeps : (was : Bool) → held was half₀ ≡ was
+  pub half-keeps : (was : Bool) → lockAfter was half₀ ≡ was
   -- "0.3 clears none"
-  pub three-tenths-keeps : (was : Bool) → held was (decimal binary32 3 10) ≡ was
+  pub three-tenths-keeps : (was : Bool) → lockAfter was (decimal binary32 3 10) ≡ was
   -- "above 0.5 sets lock"
-  pub above-half-sets : (was : Bool) → held was above-half ≡ true
+  pub above-half-sets : (was : Bool) → lockAfter was above-half ≡ true
   -- "below 0.3 clears it"
-  pub below-three-tenths-clears : (was : Bool) → held was below-three-tenths ≡ false
+  pub below-three-tenths-clears : (was : Bool) → lockAfter was below-three-tenths ≡ false

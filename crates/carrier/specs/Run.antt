@@ -31,8 +31,8 @@ abbrev pub symbols : CostasState → List Float → Symbols
 symbols s xs = runs cosList (s .constellation) (s .params) (s .track) (samples xs)
 
 -- "A refused run yields its number, …, the same state, and every buffer unchanged."
-abbrev pub turnedAway : Refusal → CostasState → List Float → Outcome
-turnedAway n s ys = record { number = numberOf n; state = s; output = ys }
+abbrev pub refusedCall : Refusal → CostasState → List Float → Outcome
+refusedCall n s ys = record { number = numberOf n; state = s; output = ys }
 
 abbrev pub done : CostasState → List Float → Outcome
 done s xs = let r = symbols s xs in record { number = 0; state = record { constellation = s .constellation; params = s .params; track = r .last }; output = parts (r .values) }
@@ -43,7 +43,7 @@ carried s xs ys = let r = done s (take (2 * (length ys / 2)) xs) in record { num
 
 -- "in a run 8 before 7": an odd count of f32 in either buffer, then lengths that differ
 unfoldable pub called : CostasState → List Float → List Float → Outcome
-called s xs ys = cond (oddEither xs ys) (turnedAway Odd s ys) (cond (eqb (length xs) (length ys)) (done s xs) (turnedAway Uneven s ys))
+called s xs ys = cond (oddEither xs ys) (refusedCall Odd s ys) (cond (eqb (length xs) (length ys)) (done s xs) (refusedCall Uneven s ys))
 
 -- whether a call is not refused
 abbrev pub accepts : List Float → List Float → Bool

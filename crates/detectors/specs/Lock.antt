@@ -54,10 +54,10 @@ unfoldable pub smoothed : Float → Float → Float
 smoothed level m = flushed binary32 (level ⊕ decimal binary32 1 100 ⊗ (m ⊖ level))
 
 -- "above 0.5 sets lock, below 0.3 clears it"
-unfoldable pub held : Bool → Float → Bool
-held was level = cond (lt half₀ level) true (cond (lt level (decimal binary32 3 10)) false was)
+unfoldable pub lockAfter : Bool → Float → Bool
+lockAfter was level = cond (lt half₀ level) true (cond (lt level (decimal binary32 3 10)) false was)
 
 -- "A number m gives level …. None leaves both."
 unfoldable pub watched : Lock → Metric → Lock
-watched k (Number m) = let l = smoothed (k .level) m in record { level = l; locked = held (k .locked) l }
+watched k (Number m) = let l = smoothed (k .level) m in record { level = l; locked = lockAfter (k .locked) l }
 watched k Nothing = k

@@ -3,7 +3,7 @@
 use constellations::CostasConstellation;
 use values::C32;
 ghost use mathlib.Core.Path.{_≡_};
-ghost use Rattle.detectors.specs.Lock.{bpskMeasure, qpskMeasure, psk8Measure, measured, metricOf, held, watched};
+ghost use Rattle.detectors.specs.Lock.{bpskMeasure, qpskMeasure, psk8Measure, measured, metricOf, lockAfter, watched};
 
 // The lock measure: a finite number or none.
 pub enum Metric {
@@ -87,7 +87,7 @@ pub fn lock_metric(constellation: CostasConstellation, y: C32, d: C32) -> Metric
 
 // Whether there is lock at this level, where there was before or not.
 fn hold(was: bool, level: f32) -> bool
-    ensures { λ r. ⌜ r ≡ held was level ⌝ }
+    ensures { λ r. ⌜ r ≡ lockAfter was level ⌝ }
 {
     if level > LOCK_ON {
         true

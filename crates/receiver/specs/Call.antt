@@ -37,12 +37,12 @@ answered z zs ys = outcomeOf (z .answer) (z .receiver) zs ys
 abbrev pub top : ℕ
 top = 4294967295
 
-unfoldable pub held : ℕ → ℕ → ℕ
-held count n = cond (ltb top (count + n)) top (count + n)
+unfoldable pub countAfter : ℕ → ℕ → ℕ
+countAfter count n = cond (ltb top (count + n)) top (count + n)
 
 -- "A refused run yields its number, counts 0 and 0, the same state, and every buffer unchanged."
-abbrev pub turnedAway : Refusal → Receiver → List Float → List Float → Outcome
-turnedAway n r zs ys = record { number = numberOf n; consumed = 0; produced = 0; receiver = r; strobes = zs; output = ys }
+abbrev pub refusedCall : Refusal → Receiver → List Float → List Float → Outcome
+refusedCall n r zs ys = record { number = numberOf n; consumed = 0; produced = 0; receiver = r; strobes = zs; output = ys }
 
 -- "Timing into a strobe buffer, then the carrier over the strobes produced, into the output." "A run answers with timing's two counts."
 unfoldable pub done : Receiver → List Float → List Float → List Float → Outcome
@@ -53,7 +53,7 @@ done r xs zs ys =
       number = 0;
       consumed = t .consumed;
       produced = t .produced;
-      receiver = record { timing = stateOf (t .state); carrier = c .state; count = held (r .count) (t .produced) };
+      receiver = record { timing = stateOf (t .state); carrier = c .state; count = countAfter (r .count) (t .produced) };
       strobes = t .output;
       output = written (c .output) ys;
     }
@@ -64,7 +64,7 @@ oddAny xs zs ys = oddEither xs zs || eqb (length ys % 2) 1
 
 -- "in a run 8 before 7"; number 7: "the receiver's strobe buffer and output differ in length"
 unfoldable pub called : Receiver → List Float → List Float → List Float → Outcome
-called r xs zs ys = cond (oddAny xs zs ys) (turnedAway Odd r zs ys) (cond (eqb (length zs) (length ys)) (done r xs zs ys) (turnedAway Uneven r zs ys))
+called r xs zs ys = cond (oddAny xs zs ys) (refusedCall Odd r zs ys) (cond (eqb (length zs) (length ys)) (done r xs zs ys) (refusedCall Uneven r zs ys))
 
 -- whether a call is not refused
 abbrev pub accepts : List Float → List Float → List Float → Bool

@@ -7,7 +7,7 @@ ghost use mathlib.Core.Path.{_≡_};
 ghost use lib.ListN.{length};
 ghost use Rattle.values.specs.declared.progress.Answer.the-variants.{Refused};
 ghost use Rattle.receiver.specs.Record.{Given};
-ghost use Rattle.receiver.specs.Call.{held, done, called, outcomeOf, answered};
+ghost use Rattle.receiver.specs.Call.{countAfter, done, called, outcomeOf, answered};
 
 // The largest symbol count.
 const TOP: u32 = 0xffff_ffff;
@@ -20,7 +20,7 @@ pub struct Ran {
 
 // The count after so many symbols more; it stops at the top.
 fn counted(count: u32, symbols: usize) -> u32
-    ensures { λ r. ⌜ r ≡ held count symbols ⌝ }
+    ensures { λ r. ⌜ r ≡ countAfter count symbols ⌝ }
 {
     let room = (TOP - count) as usize;
     if room < symbols {

@@ -20,13 +20,13 @@ bytes [] = []
 bytes (x ∷ l) = bytesOf 4 (toBits binary32 x) ++ bytes l
 
 -- how many whole samples there are in as many bytes and as many f32
-abbrev pub held : ℕ → ℕ → ℕ
-held bs fs = min (bs / 8) (fs / 2)
+abbrev pub wholeSamples : ℕ → ℕ → ℕ
+wholeSamples bs fs = min (bs / 8) (fs / 2)
 
 -- a slice with the samples that stand in bytes at its front, and the rest of it as found
 abbrev pub read : List ℕ → List Float → List Float
-read bs ys = sets ys 0 (take (2 * held (length bs) (length ys)) (floats bs))
+read bs ys = sets ys 0 (take (2 * wholeSamples (length bs) (length ys)) (floats bs))
 
 -- bytes with these samples at their front, and the rest of them as found
 abbrev pub written : List Float → List ℕ → List ℕ
-written xs bs = sets bs 0 (bytes (take (2 * held (length bs) (length xs)) xs))
+written xs bs = sets bs 0 (bytes (take (2 * wholeSamples (length bs) (length xs)) xs))

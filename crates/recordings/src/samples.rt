@@ -4,11 +4,11 @@ use crate::bytes::least;
 use crate::bytes::store_f32;
 ghost use mathlib.Core.Path.{_≡_};
 ghost use lib.ListN.{length};
-ghost use Rattle.recordings.specs.Samples.{held, read, written};
+ghost use Rattle.recordings.specs.Samples.{wholeSamples, read, written};
 
 // How many whole samples there are in so many bytes and so many f32.
 fn whole(bytes: usize, parts: usize) -> usize
-    ensures { λ r. ⌜ r ≡ held bytes parts ⌝ }
+    ensures { λ r. ⌜ r ≡ wholeSamples bytes parts ⌝ }
 {
     least(bytes / 8, parts / 2)
 }
@@ -16,7 +16,7 @@ fn whole(bytes: usize, parts: usize) -> usize
 // Reads as many samples as the bytes have whole and the slice has places for, into the front of the
 // slice. Answers how many.
 pub fn read_samples(bytes: &[u8], samples: &mut [f32]) -> usize
-    ensures count { λ r. ⌜ r ≡ held (length (now (bytes .entry))) (length (now (samples .entry))) ⌝ }
+    ensures count { λ r. ⌜ r ≡ wholeSamples (length (now (bytes .entry))) (length (now (samples .entry))) ⌝ }
     ensures samples { λ _. ⌜ now (samples .exit) ≡ read (now (bytes .entry)) (now (samples .entry)) ⌝ }
 {
     let n = whole(bytes.len(), samples.len());
@@ -32,7 +32,7 @@ pub fn read_samples(bytes: &[u8], samples: &mut [f32]) -> usize
 // Writes as many samples as the slice has whole and the bytes have places for, into the front of the
 // bytes. Answers how many. A NaN's bytes are those of 7fc00000.
 pub fn write_samples(samples: &[f32], bytes: &mut [u8]) -> usize
-    ensures count { λ r. ⌜ r ≡ held (length (now (bytes .entry))) (length (now (samples .entry))) ⌝ }
+    ensures count { λ r. ⌜ r ≡ wholeSamples (length (now (bytes .entry))) (length (now (samples .entry))) ⌝ }
     ensures bytes { λ _. ⌜ now (bytes .exit) ≡ written (now (samples .entry)) (now (bytes .entry)) ⌝ }
 {
     let n = whole(bytes.len(), samples.len());

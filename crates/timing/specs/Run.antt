@@ -100,12 +100,12 @@ unfoldable pub calledReal : Sync Float → List Float → List Float → Outcome
 calledReal s xs ys = done (λ vs. vs) (ran real s xs (length ys)) ys
 
 -- "A refused run yields its number, counts 0 and 0, …, the same state, and every buffer unchanged."
-abbrev pub turnedAway : {A : Type 0} → Refusal → Sync A → List Float → Outcome A
-turnedAway n s ys = record { number = numberOf n; consumed = 0; produced = 0; state = s; output = ys }
+abbrev pub refusedCall : {A : Type 0} → Refusal → Sync A → List Float → Outcome A
+refusedCall n s ys = record { number = numberOf n; consumed = 0; produced = 0; state = s; output = ys }
 
 -- a call whose buffers hold whole samples
 abbrev pub doneComplex : Sync C32 → List Float → List Float → Outcome C32
 doneComplex s xs ys = done parts (ran complex s (samples xs) (length ys / 2)) ys
 
 unfoldable pub calledComplex : Sync C32 → List Float → List Float → Outcome C32
-calledComplex s xs ys = cond (oddEither xs ys) (turnedAway Odd s ys) (doneComplex s xs ys)
+calledComplex s xs ys = cond (oddEither xs ys) (refusedCall Odd s ys) (doneComplex s xs ys)

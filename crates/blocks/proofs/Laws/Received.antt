@@ -20,7 +20,7 @@ use Rattle.carrier.specs.Step.{Symbols, runs}
 use Rattle.carrier.proofs.Laws.Count.{runs-count}
 use Rattle.receiver.specs.declared.record.Receiver.{Receiver}
 use Rattle.receiver.specs.Record.{Given}
-use Rattle.receiver.specs.Call.{held, turnedAway, done, accepts}
+use Rattle.receiver.specs.Call.{countAfter, refusedCall, done, accepts}
 use Rattle.receiver.specs.Calls.{Call, strobesOf, outputsOf}
 use Rattle.receiver.proofs.Laws.Refused.{accepted-done, refused-by}
 use Rattle.receiver.proofs.Laws.Count.{held-none, held-twice}
@@ -47,7 +47,7 @@ assembled r t c is = record {
   instants = is;
   consumed = t .taken;
   produced = length (t .values);
-  receiver = record { timing = stateOf (t .state); carrier = record { constellation = r .carrier .constellation; params = r .carrier .params; track = c .last }; count = held (r .count) (length (t .values)) };
+  receiver = record { timing = stateOf (t .state); carrier = record { constellation = r .carrier .constellation; params = r .carrier .params; track = c .last }; count = countAfter (r .count) (length (t .values)) };
 }
 
 abbrev pub received : Receiver → List C32 → ℕ → Heard
@@ -68,7 +68,7 @@ received-joined r given xs ys n m fewer =
     let carriers = runs-together cosList (r .carrier .constellation) (r .carrier .params) (r .carrier .track) (q .values) (p .values) in
     let is = instants-together complex s xs ys n m fewer (given .timing) in
     let count = sym (length-append (q .values) (p .values)) in
-    let symbols = held-twice (r .count) (length (q .values)) (length (p .values)) ∙ ap (held (r .count)) count in
+    let symbols = held-twice (r .count) (length (q .values)) (length (p .values)) ∙ ap (countAfter (r .count)) count in
     (λ j. record {
       strobes = q .values ++ p .values;
       outputs = u .values ++ v .values;
@@ -119,7 +119,7 @@ module _ (w : Waiting) (c : Call) where
 
 -- ---- a call that is refused is silent
 module _ (w : Waiting) (c : Call) (h : accepts (handed w c) (c .strobes) (c .output) ≡ false) where
-  abbrev refusal : (n : Refusal) × (callOn w c ≡ turnedAway n (w .receiver) (c .strobes) (c .output))
+  abbrev refusal : (n : Refusal) × (callOn w c ≡ refusedCall n (w .receiver) (c .strobes) (c .output))
   refusal = refused-by (w .receiver) (handed w c) (c .strobes) (c .output) h
 
   pub refused-silent : heardOn w c ≡ silent (w .receiver)

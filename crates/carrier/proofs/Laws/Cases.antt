@@ -3,11 +3,11 @@ use mathlib.Core.Path.{refl}
 use lib.Ieee.{ofBits, round, add, sub, mul, div, neg, lt, le}
 use Rattle.ieee.specs.Magnitude.{magnitude}
 use Rattle.constellations.specs.Octant.{octantOf}
-use Rattle.detectors.specs.Lock.{quad, qpskMeasure, measured, metricOf, held}
+use Rattle.detectors.specs.Lock.{quad, qpskMeasure, measured, metricOf, lockAfter}
 use Rattle.carrier.specs.Cases.{Cases}
 
 pub cases : Cases
-unfolding octantOf magnitude metricOf measured qpskMeasure quad held add sub mul div neg lt le round ofBits
+unfolding octantOf magnitude metricOf measured qpskMeasure quad lockAfter add sub mul div neg lt le round ofBits
 cases =
     record {
       octant-diagonal = refl;

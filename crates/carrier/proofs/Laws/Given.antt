@@ -30,7 +30,7 @@ use Rattle.detectors.proofs.Laws.Errors.{error-finite}
 use Rattle.carrier.specs.Filter.{newFreq, advanced}
 use Rattle.carrier.specs.Step.{outputOf, stepped, runs}
 use Rattle.carrier.specs.State.{fresh, phaseSet, frequencyOf, frequencySet, Given}
-use Rattle.carrier.specs.Run.{turnedAway, done, called}
+use Rattle.carrier.specs.Run.{refusedCall, done, called}
 use Rattle.carrier.proofs.Laws.Setup.{Accepted, Limits, limits}
 use Rattle.carrier.proofs.Laws.Gains.{accepted-gains}
 
@@ -100,7 +100,7 @@ pub called-given : (s : CostasState) (xs ys : List Float) → Given s → Given 
 unfolding called
 called-given s xs ys g = go (oddEither xs ys) (eqb (length xs) (length ys))
   where
-    go : (a b : Bool) → Given (cond a (turnedAway Odd s ys) (cond b (done s xs) (turnedAway Uneven s ys)) .state)
+    go : (a b : Bool) → Given (cond a (refusedCall Odd s ys) (cond b (done s xs) (refusedCall Uneven s ys)) .state)
     go true b = g
     go false true = done-given s xs g
     go false false = g

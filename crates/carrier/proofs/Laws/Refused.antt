@@ -10,18 +10,18 @@ use Rattle.ieee.proofs.Laws.Test.{both-tests}
 use Rattle.values.specs.declared.error.Refusal.the-variants.{Uneven, Odd}
 use Rattle.values.specs.Buffers.{oddEither}
 use Rattle.carrier.specs.declared.state.CostasState.{CostasState}
-use Rattle.carrier.specs.Run.{Outcome, turnedAway, done, called, accepts}
+use Rattle.carrier.specs.Run.{Outcome, refusedCall, done, called, accepts}
 
 module _ (s : CostasState) (xs ys : List Float) where
   -- a call, by its two tests
   abbrev by : Bool → Bool → Outcome
-  by odd even = cond odd (turnedAway Odd s ys) (cond even (done s xs) (turnedAway Uneven s ys))
+  by odd even = cond odd (refusedCall Odd s ys) (cond even (done s xs) (refusedCall Uneven s ys))
 
-  pub called-odd : oddEither xs ys ≡ true → called s xs ys ≡ turnedAway Odd s ys
+  pub called-odd : oddEither xs ys ≡ true → called s xs ys ≡ refusedCall Odd s ys
   unfolding called
   called-odd h = ap (λ (b : Bool). by b (eqb (length xs) (length ys))) h
 
-  pub called-uneven : oddEither xs ys ≡ false → (length xs ≡ length ys → ⊥) → called s xs ys ≡ turnedAway Uneven s ys
+  pub called-uneven : oddEither xs ys ≡ false → (length xs ≡ length ys → ⊥) → called s xs ys ≡ refusedCall Uneven s ys
   unfolding called
   called-uneven h k = ap (λ (b : Bool). by b (eqb (length xs) (length ys))) h ∙ ap (by false) (ne-eqb (length xs) (length ys) k)
 

@@ -23,7 +23,7 @@ use Rattle.constellations.specs.declared.kinds.CostasConstellation.{CostasConst
 use Rattle.carrier.specs.declared.params.Params.{Params}
 use Rattle.carrier.specs.declared.state.CostasState.{CostasState}
 use Rattle.carrier.specs.State.{fresh, phaseSet}
-use Rattle.carrier.specs.Run.{Outcome, turnedAway, symbols, done, called}
+use Rattle.carrier.specs.Run.{Outcome, refusedCall, symbols, done, called}
 use Rattle.detectors.specs.Turns.{Allowed}
 use Rattle.carrier.specs.Calls.{callOf, leftBy, whole, turnsLess, TurnedOutcome, SameCarrier, TurnedList}
 use Rattle.carrier.proofs.Laws.TurnedRun.{Tied, TiedSymbols, tied-runs}
@@ -33,7 +33,7 @@ called-constellation : (s : CostasState) (xs ys : List Float) → called s xs ys
 unfolding called
 called-constellation s xs ys = by (oddEither xs ys) (eqb (length xs) (length ys))
   where
-    by : (o e : Bool) → cond {A = Outcome} o (turnedAway Odd s ys) (cond e (done s xs) (turnedAway Uneven s ys)) .state .constellation ≡ s .constellation
+    by : (o e : Bool) → cond {A = Outcome} o (refusedCall Odd s ys) (cond e (done s xs) (refusedCall Uneven s ys)) .state .constellation ≡ s .constellation
     by true e = refl
     by false true = refl
     by false false = refl
@@ -77,7 +77,7 @@ module _ (k m : ℕ) (small : m ≤ 3) where
 
   -- a call, by whether a count is odd and whether the counts are equal
   abbrev calledBy : Bool → Bool → CostasState → Call → Outcome
-  calledBy odd even s c = cond odd (turnedAway Odd s (c .output)) (cond even (done s (c .input)) (turnedAway Uneven s (c .output)))
+  calledBy odd even s c = cond odd (refusedCall Odd s (c .output)) (cond even (done s (c .input)) (refusedCall Uneven s (c .output)))
 
   tied-call : {s t : CostasState} {c d : Call} → Allowed (s .constellation) k m → TiedState m s t → TurnedCall whole k c d → TiedOutcome k m (called s (c .input) (c .output)) (called t (d .input) (d .output))
   unfolding called

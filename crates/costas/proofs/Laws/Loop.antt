@@ -64,19 +64,19 @@ pub record Underway (table : List Float) (c : CostasConstellation) (p : Params) 
   pub shows : shown ys k (runs table c p t (drop k l)) ≡ shown ys₀ 0 (runs table c p t₀ l)
 
 -- the symbols that the input xs and an output with room for m hold
-abbrev pub held : List Float → ℕ → List C32
-held xs m = samples (take (2 * m) xs)
+abbrev pub reached : List Float → ℕ → List C32
+reached xs m = samples (take (2 * m) xs)
 
-held-count : (xs : List Float) (m : ℕ) → length (held xs m) ≡ min (length xs / 2) m
-held-count xs m = ap length (samples-take m xs) ∙ length-take m (samples xs) ∙ omega (arith, length-samples xs)
+reached-count : (xs : List Float) (m : ℕ) → length (reached xs m) ≡ min (length xs / 2) m
+reached-count xs m = ap length (samples-take m xs) ∙ length-take m (samples xs) ∙ omega (arith, length-samples xs)
 
 -- the sample that the loop reads is one of them
-pub held-read : (xs : List Float) (m k : ℕ) → k < length (held xs m) → {x : C32} → x ≡ getD (samples xs) k silence → x ≡ getD (held xs m) k silence
-held-read xs m k h e = e ∙ sym (getD-take m (samples xs) k silence (omega (arith, held-count xs m))) ∙ ap (λ (l : List C32). getD l k silence) (sym (samples-take m xs))
+pub reached-read : (xs : List Float) (m k : ℕ) → k < length (reached xs m) → {x : C32} → x ≡ getD (samples xs) k silence → x ≡ getD (reached xs m) k silence
+reached-read xs m k h e = e ∙ sym (getD-take m (samples xs) k silence (omega (arith, reached-count xs m))) ∙ ap (λ (l : List C32). getD l k silence) (sym (samples-take m xs))
 
 module _ {table : List Float} {c : CostasConstellation} {p : Params} {n : ℕ} {t₀ : Track} {ys₀ : List Float} where
-  pub begins : (xs : List Float) → n ≡ min (length xs / 2) (length ys₀ / 2) → n < 2 ^ 61 → Underway table c p (held xs (length ys₀ / 2)) n t₀ ys₀ t₀ ys₀ 0
-  begins xs e small = record { count = held-count xs (length ys₀ / 2) ∙ sym e; room = refl; room₀ = omega arith; done = omega arith; small = small; last = refl; shows = refl }
+  pub begins : (xs : List Float) → n ≡ min (length xs / 2) (length ys₀ / 2) → n < 2 ^ 61 → Underway table c p (reached xs (length ys₀ / 2)) n t₀ ys₀ t₀ ys₀ 0
+  begins xs e small = record { count = reached-count xs (length ys₀ / 2) ∙ sym e; room = refl; room₀ = omega arith; done = omega arith; small = small; last = refl; shows = refl }
 
   module _ {l : List C32} {t : Track} {ys : List Float} {k : ℕ} (u : Underway table c p l n t₀ ys₀ t ys k) where
     -- the output y of the sample x is stored, and v is the track after it

@@ -16,7 +16,7 @@ use Rattle.constellations.specs.Octant.{decisionOf}
 use Rattle.detectors.specs.declared.lock.Lock.{Lock}
 use Rattle.detectors.specs.declared.lock.Metric.{Metric}
 use Rattle.detectors.specs.declared.lock.Metric.the-variants.{Number, Nothing}
-use Rattle.detectors.specs.Lock.{metricOf, smoothed, held, watched}
+use Rattle.detectors.specs.Lock.{metricOf, smoothed, lockAfter, watched}
 use Rattle.detectors.specs.Turns.{Allowed}
 use Rattle.detectors.proofs.Laws.Turning.{same-measured}
 
@@ -34,8 +34,8 @@ alike-smoothed : {l k : Float} (m : Float) → Alike l k → Alike (smoothed l m
 unfolding smoothed
 alike-smoothed m p = like-flush binary32 (like-add binary32 p (like-mul-r binary32 (like-refl (decimal binary32 1 100)) (like-sub binary32 (like-refl m) p)))
 
-same-held : {a b : Bool} {l k : Float} → a ≡ b → Alike l k → held a l ≡ held b k
-unfolding held
+same-held : {a b : Bool} {l k : Float} → a ≡ b → Alike l k → lockAfter a l ≡ lockAfter b k
+unfolding lockAfter
 same-held e p = rw (e, like-lt (like-refl half₀) p, like-lt p (like-refl (decimal binary32 3 10)))
 
 pub alike-watched : {k l : Lock} (m : Metric) → AlikeLock k l → AlikeLock (watched k m) (watched l m)

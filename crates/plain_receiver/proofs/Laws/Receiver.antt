@@ -12,7 +12,7 @@ use Rattle.complex_sync.specs.Views.{sync}
 use Rattle.complex_sync.specs.Views as complex
 use Rattle.receiver.specs.declared.record.Receiver as declaredReceiver
 use Rattle.receiver.specs.Record as receiver
-use Rattle.receiver.specs.Call.{Outcome, turnedAway, oddAny, done, called}
+use Rattle.receiver.specs.Call.{Outcome, refusedCall, oddAny, done, called}
 use Rattle.values.specs.declared.counts.Counts.{Counts}
 use Rattle.plain_receiver.specs.declared.Receiver.{Receiver}
 use Rattle.plain.specs.Faithful.{Faithful}
@@ -53,7 +53,7 @@ called-as-found : (r : declaredReceiver.Receiver) (xs zs ys : List Float) (o : O
 unfolding called done
 called-as-found r xs zs ys o = by (oddAny xs zs ys) (eqb (length zs) (length ys))
   where
-    by : (odd equal : Bool) → o ≡ cond odd (turnedAway Odd r zs ys) (cond equal (done r xs zs ys) (turnedAway Uneven r zs ys)) → 0 < o .number → AsFound r zs ys o
+    by : (odd equal : Bool) → o ≡ cond odd (refusedCall Odd r zs ys) (cond equal (done r xs zs ys) (refusedCall Uneven r zs ys)) → 0 < o .number → AsFound r zs ys o
     by true equal e h = record { receiver = ap (λ (q : Outcome). q .receiver) e; strobes = ap (λ (q : Outcome). q .strobes) e; output = ap (λ (q : Outcome). q .output) e }
     by false true e h = absurd (omega (arith, ap (λ (q : Outcome). q .number) e))
     by false false e h = record { receiver = ap (λ (q : Outcome). q .receiver) e; strobes = ap (λ (q : Outcome). q .strobes) e; output = ap (λ (q : Outcome). q .output) e }

@@ -17,7 +17,7 @@ use Rattle.carrier.specs.declared.state.CostasState.{CostasState}
 use Rattle.carrier.specs.Run as carrier
 use Rattle.carrier.proofs.Laws.Carried.{carried-all}
 use Rattle.receiver.specs.declared.record.Receiver.{Receiver}
-use Rattle.receiver.specs.Call.{Outcome, outcomeOf, held, done}
+use Rattle.receiver.specs.Call.{Outcome, outcomeOf, countAfter, done}
 
 -- what an outcome of timing's makes of a call on r
 abbrev after : Receiver → List Float → run.Outcome C32 → Outcome
@@ -27,7 +27,7 @@ after r ys t =
       number = t .number;
       consumed = t .consumed;
       produced = t .produced;
-      receiver = record { timing = stateOf (t .state); carrier = c .state; count = held (r .count) (t .produced) };
+      receiver = record { timing = stateOf (t .state); carrier = c .state; count = countAfter (r .count) (t .produced) };
       strobes = t .output;
       output = written (c .output) ys;
     }
@@ -44,7 +44,7 @@ module _ (r : Receiver) (xs zs ys : List Float) (equal : length zs ≡ length ys
       let n = ap (λ (o : run.Outcome C32). o .produced) e in
       omega (arith, p .produced)
 
-  pub call-done : (c : CostasState) (vs : List Float) {count : ℕ} → record { number = 0; state = c; output = vs } ≡ carrier.carried (r .carrier) (take (2 * a .progress .produced) ws) ys → count ≡ held (r .count) (a .progress .produced)
+  pub call-done : (c : CostasState) (vs : List Float) {count : ℕ} → record { number = 0; state = c; output = vs } ≡ carrier.carried (r .carrier) (take (2 * a .progress .produced) ws) ys → count ≡ countAfter (r .count) (a .progress .produced)
       → outcomeOf (Done (a .progress)) (record { timing = a .state; carrier = c; count = count }) ws vs ≡ done r xs zs ys
   unfolding done
   call-done c vs {count} f g =

@@ -18,7 +18,7 @@ use Rattle.complex_sync.specs.Views.{sync}
 use Rattle.carrier.proofs.Laws.Given as carrier
 use Rattle.receiver.specs.declared.record.Receiver.{Receiver}
 use Rattle.receiver.specs.Record.{restarted, phaseSet, Given}
-use Rattle.receiver.specs.Call.{Outcome, top, held, turnedAway, done, oddAny, called}
+use Rattle.receiver.specs.Call.{Outcome, top, countAfter, refusedCall, done, oddAny, called}
 
 pub restarted-given : (r : Receiver) → Given r → Given (restarted r)
 restarted-given r g = record {
@@ -31,8 +31,8 @@ pub phaseSet-given : (r : Receiver) (phase : ℕ) → phase < 2 ^ 32 → Given r
 phaseSet-given r phase h g = record { timing = g .timing; carrier = carrier.phaseSet-given (r .carrier) phase h (g .carrier); count-in = g .count-in }
 
 -- the count stays in 32 bits
-held-in : (count n : ℕ) → held count n < 2 ^ 32
-unfolding held
+held-in : (count n : ℕ) → countAfter count n < 2 ^ 32
+unfolding countAfter
 held-in count n = go (ltb top (count + n)) refl
   where
     go : (b : Bool) → ltb top (count + n) ≡ b → cond b top (count + n) < 2 ^ 32
@@ -53,7 +53,7 @@ pub called-given : (r : Receiver) (xs zs ys : List Float) → Given r → Given 
 unfolding called
 called-given r xs zs ys g = go (oddAny xs zs ys) (eqb (length zs) (length ys))
   where
-    go : (o e : Bool) → Given (cond {A = Outcome} o (turnedAway Odd r zs ys) (cond e (done r xs zs ys) (turnedAway Uneven r zs ys)) .receiver)
+    go : (o e : Bool) → Given (cond {A = Outcome} o (refusedCall Odd r zs ys) (cond e (done r xs zs ys) (refusedCall Uneven r zs ys)) .receiver)
     go true e = g
     go false true = done-given r xs zs ys g
     go false false = g

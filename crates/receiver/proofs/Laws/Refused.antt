@@ -13,7 +13,7 @@ use Rattle.values.specs.declared.error.Refusal.the-variants.{Uneven, Odd}
 use Rattle.values.specs.Buffers.{oddEither}
 use Rattle.values.proofs.Laws.Buffers.{odd-input, odd-output, both-even, even-both}
 use Rattle.receiver.specs.declared.record.Receiver.{Receiver}
-use Rattle.receiver.specs.Call.{Outcome, turnedAway, done, oddAny, called, accepts}
+use Rattle.receiver.specs.Call.{Outcome, refusedCall, done, oddAny, called, accepts}
 
 -- ---- which counts are odd
 module _ (xs zs ys : List Float) where
@@ -37,13 +37,13 @@ module _ (xs zs ys : List Float) where
 module _ (r : Receiver) (xs zs ys : List Float) where
   -- by its two tests
   abbrev by : Bool → Bool → Outcome
-  by odd equal = cond odd (turnedAway Odd r zs ys) (cond equal (done r xs zs ys) (turnedAway Uneven r zs ys))
+  by odd equal = cond odd (refusedCall Odd r zs ys) (cond equal (done r xs zs ys) (refusedCall Uneven r zs ys))
 
-  pub called-odd : oddAny xs zs ys ≡ true → called r xs zs ys ≡ turnedAway Odd r zs ys
+  pub called-odd : oddAny xs zs ys ≡ true → called r xs zs ys ≡ refusedCall Odd r zs ys
   unfolding called
   called-odd h = ap (λ (b : Bool). by b (eqb (length zs) (length ys))) h
 
-  pub called-uneven : oddAny xs zs ys ≡ false → (length zs ≡ length ys → ⊥) → called r xs zs ys ≡ turnedAway Uneven r zs ys
+  pub called-uneven : oddAny xs zs ys ≡ false → (length zs ≡ length ys → ⊥) → called r xs zs ys ≡ refusedCall Uneven r zs ys
   unfolding called
   called-uneven h k = ap (λ (b : Bool). by b (eqb (length zs) (length ys))) h ∙ ap (by false) (ne-eqb (length zs) (length ys) k)
 
@@ -55,10 +55,10 @@ module _ (r : Receiver) (xs zs ys : List Float) where
   pub accepted-done : accepts xs zs ys ≡ true → called r xs zs ys ≡ done r xs zs ys
   accepted-done h = let t = both-tests (oddAny xs zs ys) (eqb (length zs) (length ys)) h in called-done (t .0) (eqb-true (length zs) (length ys) (t .1))
 
-  pub refused-by : accepts xs zs ys ≡ false → (n : Refusal) × (called r xs zs ys ≡ turnedAway n r zs ys)
+  pub refused-by : accepts xs zs ys ≡ false → (n : Refusal) × (called r xs zs ys ≡ refusedCall n r zs ys)
   refused-by = go (oddAny xs zs ys) (eqb (length zs) (length ys)) refl refl
     where
-      go : (o e : Bool) → oddAny xs zs ys ≡ o → eqb (length zs) (length ys) ≡ e → (not o && e) ≡ false → (n : Refusal) × (called r xs zs ys ≡ turnedAway n r zs ys)
+      go : (o e : Bool) → oddAny xs zs ys ≡ o → eqb (length zs) (length ys) ≡ e → (not o && e) ≡ false → (n : Refusal) × (called r xs zs ys ≡ refusedCall n r zs ys)
       go true e h k f = (Odd, called-odd h)
       go false true h k f = absurd (subst T f tt)
       go false false h k f = (Uneven, called-uneven h (eqb-false (length zs) (length ys) k))

@@ -40,7 +40,7 @@ use Rattle.receiver.specs.declared.record.Receiver.{Receiver}
 use Rattle.receiver.specs.declared.record.TimingValues.{TimingValues}
 use Rattle.receiver.specs.declared.record.CarrierValues.{CarrierValues}
 use Rattle.receiver.specs.Record.{timingParams, carrierParamsOf, fresh, phaseSet}
-use Rattle.receiver.specs.Call.{Outcome, turnedAway, done, oddAny, called}
+use Rattle.receiver.specs.Call.{Outcome, refusedCall, done, oddAny, called}
 use Rattle.receiver.specs.Calls.{Fresh, just-set-up, just-reset, Call, callOf, leftBy, TurnedCall, turnedCall, outputsOf, TurnedOutcome, SameReceiver, TurnedList}
 use Rattle.receiver.proofs.Laws.Setup.{opened-is}
 
@@ -108,7 +108,7 @@ module _ (k m : ℕ) (small : m ≤ 3) where
 
   -- ---- any call, by whether a count is odd and whether the lengths are equal
   abbrev calledBy : Bool → Bool → Receiver → Call → Outcome
-  calledBy odd equal r c = cond odd (turnedAway Odd r (c .strobes) (c .output)) (cond equal (doneBy r c) (turnedAway Uneven r (c .strobes) (c .output)))
+  calledBy odd equal r c = cond odd (refusedCall Odd r (c .strobes) (c .output)) (cond equal (doneBy r c) (refusedCall Uneven r (c .strobes) (c .output)))
 
   tied-call : {r s : Receiver} {c d : Call} → Tied k m r s → TurnedCall k c d → TiedOutcome k m (callOf r c) (callOf s d)
   unfolding called
@@ -120,7 +120,7 @@ module _ (k m : ℕ) (small : m ≤ 3) where
       equal : eqb (length (d .strobes)) (length (d .output)) ≡ eqb (length (c .strobes)) (length (c .output))
       equal = rw (q .strobes, q .outputs)
 
-      away : (n : Refusal) → TiedOutcome k m (turnedAway n r (c .strobes) (c .output)) (turnedAway n s (d .strobes) (d .output))
+      away : (n : Refusal) → TiedOutcome k m (refusedCall n r (c .strobes) (c .output)) (refusedCall n s (d .strobes) (d .output))
       away n = record { answer = record { number = refl; consumed = refl; produced = refl; strobes = none; outputs = none }; receiver = h }
 
       by : (o e : Bool) → ((not o && e) ≡ true → AllTurned k (samples (c .input)) (samples (d .input))) → TiedOutcome k m (calledBy o e r c) (calledBy o e s d)

@@ -15,7 +15,7 @@ use Rattle.receiver.specs.declared.record.TimingValues.{TimingValues}
 use Rattle.receiver.specs.declared.record.CarrierValues.{CarrierValues}
 use Rattle.receiver.specs.declared.record.SetUp.the-variants.{Ready}
 use Rattle.receiver.specs.Record.{opened, restarted, phaseSet, SetUpWith}
-use Rattle.receiver.specs.Call.{Outcome, turnedAway, done, oddAny, called}
+use Rattle.receiver.specs.Call.{Outcome, refusedCall, done, oddAny, called}
 use Rattle.receiver.specs.Calls.{Call, callOf, after}
 use Rattle.receiver.proofs.Laws.Setup.{opened-is}
 
@@ -35,7 +35,7 @@ module _ {k : CostasConstellation} {t : TimingValues} {c : CarrierValues} where
   unfolding called done ran
   called-with r xs zs ys w = go (oddAny xs zs ys) (eqb (length zs) (length ys))
     where
-      go : (o e : Bool) → SetUpWith k t c (cond {A = Outcome} o (turnedAway Odd r zs ys) (cond e (done r xs zs ys) (turnedAway Uneven r zs ys)) .receiver)
+      go : (o e : Bool) → SetUpWith k t c (cond {A = Outcome} o (refusedCall Odd r zs ys) (cond e (done r xs zs ys) (refusedCall Uneven r zs ys)) .receiver)
       go true e = w
       go false true = record { constellation = w .constellation; timing = w .timing; carrier = w .carrier }
       go false false = w

@@ -15,7 +15,7 @@ use Rattle.values.specs.Buffers.{oddEither}
 use Rattle.values.proofs.Laws.Samples.{length-samples}
 use Rattle.timing.specs.Sample.{Ops, real, complex}
 use Rattle.timing.specs.Loop.{lacks, runs, consumed, pending, trackBack}
-use Rattle.timing.specs.Run.{Sync, Given, line, ran, Outcome, done, calledReal, turnedAway, doneComplex, calledComplex}
+use Rattle.timing.specs.Run.{Sync, Given, line, ran, Outcome, done, calledReal, refusedCall, doneComplex, calledComplex}
 use Rattle.timing.specs.Sparing.{Sparing}
 use Rattle.timing.proofs.Laws.Clock.{running-back, running-more}
 use Rattle.timing.proofs.Laws.Loop.{runs-count, runs-running, runs-stuck}
@@ -73,7 +73,7 @@ module _ (s : Sync Float) (xs ys : List Float) where
 -- ---- a call on complex samples
 module _ (s : Sync C32) (xs ys : List Float) where
   -- "A refused run yields its number, counts 0 and 0, …, the same state, and every buffer unchanged."
-  pub calledComplex-refused : oddEither xs ys ≡ true → calledComplex s xs ys ≡ turnedAway Odd s ys
+  pub calledComplex-refused : oddEither xs ys ≡ true → calledComplex s xs ys ≡ refusedCall Odd s ys
   unfolding calledComplex
   calledComplex-refused e = rw e
 
@@ -85,7 +85,7 @@ module _ (s : Sync C32) (xs ys : List Float) where
   unfolding calledComplex
   calledComplex-given g = go (oddEither xs ys)
     where
-      go : (b : Bool) → Given (cond {A = Outcome C32} b (turnedAway Odd s ys) (doneComplex s xs ys) .state)
+      go : (b : Bool) → Given (cond {A = Outcome C32} b (refusedCall Odd s ys) (doneComplex s xs ys) .state)
       go true = g
       go false = ran-given complex s (samples xs) (length ys / 2) g
 
@@ -96,6 +96,6 @@ module _ (s : Sync C32) (xs ys : List Float) where
   unfolding calledComplex
   calledComplex-sparing = go (oddEither xs ys)
     where
-      go : (b : Bool) → Sparing 2 (length xs / 2) (length ys / 2) ys (cond {A = Outcome C32} b (turnedAway Odd s ys) (doneComplex s xs ys))
+      go : (b : Bool) → Sparing 2 (length xs / 2) (length ys / 2) ys (cond {A = Outcome C32} b (refusedCall Odd s ys) (doneComplex s xs ys))
       go true = record { produced = omega arith; consumed = omega arith; all = λ z h. absurd (omega arith); rest = refl; same-length = refl }
       go false = doneComplex-sparing

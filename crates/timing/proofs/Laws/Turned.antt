@@ -21,7 +21,7 @@ use Rattle.values.specs.Buffers.{written, oddEither}
 use Rattle.values.specs.TurnedCall.{Call, TurnedCall}
 use Rattle.timing.specs.declared.params.Params.{Params}
 use Rattle.timing.specs.Sample.{complex}
-use Rattle.timing.specs.Run.{Sync, fresh, Ran, Outcome, done, turnedAway, doneComplex, calledComplex}
+use Rattle.timing.specs.Run.{Sync, fresh, Ran, Outcome, done, refusedCall, doneComplex, calledComplex}
 use Rattle.timing.specs.Calls.{callOf, leftBy, whole, strobes, TurnedOutcome, SameClock, TurnedList}
 use Rattle.timing.proofs.Laws.Alike.{alike-instant}
 use Rattle.timing.proofs.Laws.TurnedRun.{TiedSync, tied-fresh, TiedRan, tied-ran}
@@ -50,7 +50,7 @@ tied-done k {q} {r} ys zs h = record {
 
 -- a call, by whether a count is odd
 abbrev calledBy : Bool → Sync C32 → Call → Outcome C32
-calledBy odd s c = cond odd (turnedAway Odd s (c .output)) (doneComplex s (c .input) (c .output))
+calledBy odd s c = cond odd (refusedCall Odd s (c .output)) (doneComplex s (c .input) (c .output))
 
 tied-call : (k : ℕ) {s t : Sync C32} {c d : Call} → TiedSync k s t → TurnedCall whole k c d → TiedOutcome k (calledComplex s (c .input) (c .output)) (calledComplex t (d .input) (d .output))
 unfolding calledComplex

@@ -9,12 +9,12 @@ use Rattle.carrier.specs.declared.state.CostasState.{CostasState}
 use Rattle.carrier.specs.State.{Given}
 use Rattle.detectors.specs.Detector.{derotated}
 use Rattle.carrier.proofs.Laws.Given.{done-given}
-use Rattle.costas.proofs.Laws.Loop.{Underway, held, held-read, begins, goes-on, ends}
+use Rattle.costas.proofs.Laws.Loop.{Underway, reached, reached-read, begins, goes-on, ends}
 use Rattle.costas.proofs.symbols.carry.Statement.{statement}
 use Rattle.costas.proofs.symbols.carry.Tie as tie
 
 abbrev Inv-loop : tie.InvT-loop
-Inv-loop input output₀ constellation p table n t₀ k₀ output t k = Underway table constellation p (held input (length output₀ / 2)) n t₀ output₀ t output k
+Inv-loop input output₀ constellation p table n t₀ k₀ output t k = Underway table constellation p (reached input (length output₀ / 2)) n t₀ output₀ t output k
 
 abbrev μ-loop : tie.MeasureT-loop
 μ-loop input output₀ constellation p table n t₀ k₀ output t k = n - k
@@ -54,7 +54,7 @@ loop-again c =
     let l = c .before .before .before .before .before .before .before .before .before .before .loop in
     let left = c .before .before .before .before .before .before .before .before .before .loop-test .taken in
     let a = c .before .before .before .before .before .before .before .before .before .before .before .before .before .before .before .before .before .args in
-    let x = held-read (a .input .now) (length (a .output .now) / 2) (l .k) (let n = l .inv .count in omega arith) (c .before .before .before .before .before .before .before .before .sample-at .ensures) in
+    let x = reached-read (a .input .now) (length (a .output .now) / 2) (l .k) (let n = l .inv .count in omega arith) (c .before .before .before .before .before .before .before .before .sample-at .ensures) in
     goes-on (l .inv) left x (c .before .before .before .before .before .derotate .ensures ∙ ap (derotated _) (c .before .before .before .before .before .before .interp-f32-pair .ensures)) (c .step .ensures) (c .before .before .before .store-sample .ensures)
 
 same-length : tie.Need-same-length Inv-loop μ-loop

@@ -2,7 +2,7 @@
 use mathlib.Core.Path.{sym, _∙_}
 use lib.Ieee.{Float, ofBits, round}
 use Rattle.detectors.specs.declared.lock.Lock.{Lock}
-use Rattle.detectors.specs.Lock.{smoothed, held, watched}
+use Rattle.detectors.specs.Lock.{smoothed, lockAfter, watched}
 use borrow.Author.Needs.{needs}
 use Rattle.detectors.proofs.lock.watch.Statement.{statement}
 use Rattle.detectors.proofs.lock.watch.Tie as tie
@@ -11,7 +11,7 @@ use Rattle.numbers.proofs.flush_denormal.Reads as flush-denormal-reads
 
 -- the lock detector at a level
 abbrev at : Lock → Float → Lock
-at k l = record { level = l; locked = held (k .locked) l }
+at k l = record { level = l; locked = lockAfter (k .locked) l }
 
 enum-known-m : tie.Need-enum-known-m
 enum-known-m c = search needs

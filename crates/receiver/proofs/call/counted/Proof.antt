@@ -5,7 +5,7 @@ use Prim.Native.Nat.{ℕ, _+_}
 use native.Mathlib.Omega.{arith}
 use borrow.Author.Needs.{needs}
 use borrow.Author.Tests.{lt-ltb, le-ltb}
-use Rattle.receiver.specs.Call.{top, held}
+use Rattle.receiver.specs.Call.{top, countAfter}
 use Rattle.receiver.proofs.call.counted.Statement.{statement}
 use Rattle.receiver.proofs.call.counted.Tie as tie
 
@@ -26,11 +26,11 @@ add-result : tie.Need-add-result
 add-result c = search needs
 
 returns : tie.Need-returns
-unfolding held
+unfolding countAfter
 returns c = let a = c .before .args in sym (ap (λ (b : Bool). picked b (a .count + a .symbols)) (lt-ltb top (a .count + a .symbols) (omega arith)))
 
 returns-2 : tie.Need-returns-2
-unfolding held
+unfolding countAfter
 returns-2 c = let a = c .before .args in sym (ap (λ (b : Bool). picked b (a .count + a .symbols)) (le-ltb top (a .count + a .symbols) (omega arith)))
 
 pub counted-spec : {M : Type 1} → statement M

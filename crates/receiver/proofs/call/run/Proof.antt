@@ -10,7 +10,7 @@ use Rattle.values.specs.declared.error.Refusal.{Refusal}
 use Rattle.values.specs.declared.error.Refusal.the-variants.{Uneven, Odd}
 use Rattle.receiver.specs.declared.call.Ran.{Ran}
 use Rattle.receiver.specs.Record.{Given}
-use Rattle.receiver.specs.Call.{Outcome, answered, turnedAway, oddAny, called}
+use Rattle.receiver.specs.Call.{Outcome, answered, refusedCall, oddAny, called}
 use Rattle.receiver.proofs.Laws.Refused.{odd-in-input, odd-in-strobes, odd-in-output, all-even, called-odd, called-uneven, called-done}
 use Rattle.receiver.proofs.Laws.Given.{called-given}
 use borrow.Author.Needs.{needs}
@@ -26,7 +26,7 @@ kept : (s : tie.Start) {o : Outcome} → o ≡ calledAt s → (o ≡ calledAt s)
 kept s e = let a = s .args in (e, subst (λ (q : Outcome). Given (q .receiver)) (sym e) (called-given (a .r) (a .input .now) (a .strobes .now) (a .output .now) (s .pre)))
 
 -- a refusal that the definition gives too
-refuses : (s : tie.Start) (z : Ran) (why : Refusal) → let a = s .args in z ≡ record { answer = Refused why; receiver = a .r } → calledAt s ≡ turnedAway why (a .r) (a .strobes .now) (a .output .now)
+refuses : (s : tie.Start) (z : Ran) (why : Refusal) → let a = s .args in z ≡ record { answer = Refused why; receiver = a .r } → calledAt s ≡ refusedCall why (a .r) (a .strobes .now) (a .output .now)
     → (answered z (a .strobes .now) (a .output .now) ≡ calledAt s) × Given (z .receiver)
 refuses s z why e d = let a = s .args in kept s (ap (λ (x : Ran). answered x (a .strobes .now) (a .output .now)) e ∙ sym d)
 

@@ -6,7 +6,7 @@ use lib.ListN.{length, take}
 use lib.Seq.{sets}
 use Rattle.ieee.specs.Notation.{zero₀}
 use borrow.Author.Needs.{needs}
-use Rattle.recordings.specs.Samples.{floats, held}
+use Rattle.recordings.specs.Samples.{floats, wholeSamples}
 use Rattle.lists.proofs.Laws.Stores.{Stored, begins, one-more}
 use Rattle.recordings.proofs.Laws.Floats.{length-floats}
 use Rattle.recordings.proofs.samples.read_samples.Statement.{statement}
@@ -56,7 +56,7 @@ returns c =
     let a = c .before .before .before .before .before .args in
     let t = c .before .loop in
     let n = c .before .before .whole .ensures in
-    let all : t .k ≡ 2 * held (length (a .bytes .now)) (length (a .samples .now)) = omega arith in
+    let all : t .k ≡ 2 * wholeSamples (length (a .bytes .now)) (length (a .samples .now)) = omega arith in
     (n, t .inv .3 .is ∙ ap (λ (i : ℕ). sets (a .samples .now) 0 (take i (floats (a .bytes .now)))) all)
 
 pub read-samples-spec : {M : Type 1} → statement M

@@ -56,7 +56,7 @@ returns c =
     let a = c .before .before .before .before .before .args in
     let t = c .before .loop in
     let n = c .before .before .whole .ensures in
-    let all : t .k ≡ 2 * spec.held (length (a .bytes .now)) (length (a .samples .now)) = omega arith in
+    let all : t .k ≡ 2 * spec.wholeSamples (length (a .bytes .now)) (length (a .samples .now)) = omega arith in
     (n, t .inv .3 .is ∙ ap (λ (i : ℕ). sets (a .bytes .now) 0 (spec.bytes (take i (a .samples .now)))) all)
 
 pub write-samples-spec : {M : Type 1} → statement M
