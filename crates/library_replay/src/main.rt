@@ -6,9 +6,9 @@
 // two places at most, so that its input, its strobe buffer and its output are a line each. A set-up is
 // compared with those of the loops alone too. Played are the letters v, c, n, u, z, p, i, r, t, o, m, a, b,
 // d, q and e.
+mod asked;
 mod call;
 mod counts;
-mod heard;
 mod loops;
 mod play;
 mod readings;
@@ -29,7 +29,7 @@ fn main() {
 // Plays line after line, up to the end of the input. What is left there after the last whole line
 // counts as a line too.
 fn play_lines(tally: &mut [u64; 16]) {
-    let mut lines = heard::nothing();
+    let mut lines = asked::nothing();
     let mut played = play::start();
     let mut left = LINES;
     while left > 0 {
@@ -39,7 +39,7 @@ fn play_lines(tally: &mut [u64; 16]) {
             return;
         }
         let op = replay::read_operation(&line[..n]);
-        lines = heard::hear(lines, op);
+        lines = asked::note(lines, op);
         played = play(played, lines, op);
         tally::count_line(tally, counts::place(op.letter), &line[..n], played.agrees);
         left -= 1;

@@ -1,5 +1,5 @@
 // Playing one line.
-use crate::heard::Heard;
+use crate::asked::Asked;
 use crate::readings::readings_agree;
 use crate::readings::symbol_agrees;
 use crate::run::Six;
@@ -36,11 +36,11 @@ fn six_agree(six: Six, op: Operation) -> bool {
 }
 
 // Whether a line agrees that is no call.
-fn agrees(slot: Slot, strobes: Six, output: Six, heard: Heard, op: Operation) -> bool {
+fn agrees(slot: Slot, strobes: Six, output: Six, asked: Asked, op: Operation) -> bool {
     let letter = op.letter;
     match letter {
         b'v' | b'c' | b'i' => true,
-        b'n' | b'u' => slot::set_up_agrees(heard, op),
+        b'n' | b'u' => slot::set_up_agrees(asked, op),
         b'z' => words_agree(0, 0, 0, op),
         b'p' => words_agree(op.x % 0x1_0000_0000, 0, 0, op),
         b't' => six_agree(strobes, op),
@@ -52,14 +52,14 @@ fn agrees(slot: Slot, strobes: Six, output: Six, heard: Heard, op: Operation) ->
 }
 
 // Calls, if there is a receiver.
-fn played_run(slot: Slot, heard: Heard, op: Operation) -> Played
+fn played_run(slot: Slot, asked: Asked, op: Operation) -> Played
     requires { ⌜ SlotGiven slot ⌝ }
     ensures { λ r. ⌜ SlotGiven (r .slot) ⌝ }
 {
     match slot {
         Slot::Empty => start(),
         Slot::Ready(r) => {
-            let ran = run(r, heard.input, op);
+            let ran = run(r, asked.input, op);
             let after = ran.receiver;
             let strobes = ran.strobes;
             let output = ran.output;
@@ -74,20 +74,20 @@ fn played_run(slot: Slot, heard: Heard, op: Operation) -> Played
 }
 
 // The receiver after a line that lends no buffer.
-fn next(slot: Slot, heard: Heard, op: Operation) -> Slot
+fn next(slot: Slot, asked: Asked, op: Operation) -> Slot
     requires { ⌜ SlotGiven slot ⌝ }
     ensures { λ r. ⌜ SlotGiven r ⌝ }
 {
     let letter = op.letter;
     match letter {
-        b'n' | b'u' => slot::set_up(heard, op),
+        b'n' | b'u' => slot::set_up(asked, op),
         b'z' | b'p' => slot::change(slot, op),
         _ => slot,
     }
 }
 
 // Plays a line on what the last one left.
-pub(crate) fn play(last: Played, heard: Heard, op: Operation) -> Played
+pub(crate) fn play(last: Played, asked: Asked, op: Operation) -> Played
     requires { ⌜ SlotGiven (last .slot) ⌝ }
     ensures { λ r. ⌜ SlotGiven (r .slot) ⌝ }
 {
@@ -95,12 +95,12 @@ pub(crate) fn play(last: Played, heard: Heard, op: Operation) -> Played
     let strobes = last.strobes;
     let output = last.output;
     if op.letter == b'r' {
-        return played_run(slot, heard, op);
+        return played_run(slot, asked, op);
     }
     Played {
-        slot: next(slot, heard, op),
+        slot: next(slot, asked, op),
         strobes: strobes,
         output: output,
-        agrees: agrees(slot, strobes, output, heard, op),
+        agrees: agrees(slot, strobes, output, asked, op),
     }
 }

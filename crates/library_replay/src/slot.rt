@@ -1,9 +1,9 @@
 // The receiver that the lines are played on.
-use crate::heard::Heard;
-use crate::heard::carrier_values;
-use crate::heard::code;
-use crate::heard::number;
-use crate::heard::timing_values;
+use crate::asked::Asked;
+use crate::asked::carrier_values;
+use crate::asked::code;
+use crate::asked::number;
+use crate::asked::timing_values;
 use crate::loops;
 use plain_receiver::Receiver;
 use plain_receiver::ReceiverSetUp;
@@ -47,18 +47,18 @@ fn slot_of(answer: ReceiverSetUp) -> Slot
 }
 
 // Sets up anew. A refused set-up leaves no receiver.
-pub(crate) fn set_up(heard: Heard, op: Operation) -> Slot
+pub(crate) fn set_up(asked: Asked, op: Operation) -> Slot
     ensures { λ r. ⌜ SlotGiven r ⌝ }
 {
-    let t = timing_values(heard.timing, op);
-    let c = carrier_values(heard.carrier);
+    let t = timing_values(asked.timing, op);
+    let c = carrier_values(asked.carrier);
     slot_of(made(op, t, c))
 }
 
 // Whether a set-up has the number that the line records, and the loops alone agree with it.
-pub(crate) fn set_up_agrees(heard: Heard, op: Operation) -> bool {
-    let t = timing_values(heard.timing, op);
-    let c = carrier_values(heard.carrier);
+pub(crate) fn set_up_agrees(asked: Asked, op: Operation) -> bool {
+    let t = timing_values(asked.timing, op);
+    let c = carrier_values(asked.carrier);
     let answer = made(op, t, c);
     if answer.number as u64 != number(op) {
         return false;

@@ -71,7 +71,7 @@ pub record Kept (p : Params) (n : Nco) : Type 0 where
   pub freq-low : T (le (neg (p .max)) (n .freq))
   pub freq-high : T (le (n .freq) (p .max))
 
-pub advanced-kept : (p : Params) (n : Nco) (e : Float) → T (finite (p .max)) → T (le zero₀ (p .max)) → T (finite (p .ki)) → T (finite e) → T (finite (n .freq)) → Kept p (advanced p n e)
+advanced-kept : (p : Params) (n : Nco) (e : Float) → T (finite (p .max)) → T (le zero₀ (p .max)) → T (finite (p .ki)) → T (finite e) → T (finite (n .freq)) → Kept p (advanced p n e)
 unfolding advanced newFreq
 advanced-kept p n e m z k q h =
     let t = add-number binary32 (n .freq) (mul binary32 (p .ki) e) h (mul-number binary32 (p .ki) e k q) in

@@ -37,8 +37,8 @@ slice-aggregate-read-operation c = search needs
 read-operation-requires : tie.Need-read-operation-requires Inv-loop μ-loop
 read-operation-requires c κs = search needs
 
-hear-requires : tie.Need-hear-requires Inv-loop μ-loop
-hear-requires c κs = search needs
+note-requires : tie.Need-note-requires Inv-loop μ-loop
+note-requires c κs = search needs
 
 play-requires : tie.Need-play-requires Inv-loop μ-loop
 play-requires c κs = search needs
@@ -85,7 +85,7 @@ play-lines-spec =
     array-share-prefix-line
     slice-aggregate-read-operation
     read-operation-requires
-    hear-requires
+    note-requires
     play-requires
     place-requires
     array-share-prefix-line-2

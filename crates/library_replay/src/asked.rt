@@ -5,49 +5,49 @@ use replay::Operation;
 use replay::f64_of;
 
 // The last line of each kind.
-pub struct Heard {
+pub struct Asked {
     pub timing: Operation,
     pub carrier: Operation,
     pub input: Operation,
 }
 
 // Before the first line.
-pub(crate) fn nothing() -> Heard {
+pub(crate) fn nothing() -> Asked {
     let line = Operation {
         letter: 0,
         x: 0,
         y: 0,
         answer: 0,
     };
-    Heard {
+    Asked {
         timing: line,
         carrier: line,
         input: line,
     }
 }
 
-pub(crate) fn hear(heard: Heard, op: Operation) -> Heard {
-    let timing = heard.timing;
-    let carrier = heard.carrier;
-    let input = heard.input;
+pub(crate) fn note(asked: Asked, op: Operation) -> Asked {
+    let timing = asked.timing;
+    let carrier = asked.carrier;
+    let input = asked.input;
     let letter = op.letter;
     match letter {
-        b'v' => Heard {
+        b'v' => Asked {
             timing: op,
             carrier: carrier,
             input: input,
         },
-        b'c' => Heard {
+        b'c' => Asked {
             timing: timing,
             carrier: op,
             input: input,
         },
-        b'i' => Heard {
+        b'i' => Asked {
             timing: timing,
             carrier: carrier,
             input: op,
         },
-        _ => heard,
+        _ => asked,
     }
 }
 
