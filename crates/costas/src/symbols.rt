@@ -1,13 +1,20 @@
 // The run over slices that the caller lends: one output sample for each input sample.
+use carrier::CostasConstellation;
 use carrier::CostasState;
+use carrier::Params;
 use carrier::Reply;
+use carrier::Track;
 use values::Refusal;
 ghost use mathlib.Core.Path.{_≡_};
 ghost use Prim.Native.Nat.{min};
+ghost use Rattle.values.specs.Samples.{parts};
+ghost use Rattle.values.specs.Buffers.{written};
+ghost use Rattle.cosine.specs.Table.{cosList};
+ghost use Rattle.carrier.specs.Step.{runs};
 ghost use Rattle.carrier.specs.State.{Given};
 ghost use Rattle.carrier.specs.declared.state.Reply.the-variants.{Done, Refused};
 ghost use Rattle.carrier.specs.Run.{carried, called};
-ghost use Rattle.costas.specs.Answered.{outcomeOf, answered};
+ghost use Rattle.costas.specs.Answered.{outcomeOf, answered, reached};
 
 // The answer of a run, and the state after it.
 pub struct Ran {
@@ -22,19 +29,22 @@ fn least(a: usize, b: usize) -> usize
     if a < b { a } else { b }
 }
 
-// The loop over the symbols that both buffers hold whole: as many output samples stand at the front of
-// the output then, and the rest is as found. The table is taken once a run and lent: each mention of it
-// would be stored anew.
-pub fn carry(s: CostasState, input: &[f32], output: &mut [f32]) -> CostasState
-    requires { ⌜ Given s ⌝ }
-    ensures outcome { λ r. ⌜ outcomeOf Done r (now (output .exit)) ≡ carried s (now (input .entry)) (now (output .entry)) ⌝ }
-    ensures given { λ r. ⌜ Given r ⌝ }
+// The symbols that both buffers hold whole, turned back by the loop: as many output samples stand at the
+// front of the output then, and the rest is as found. The table is taken once a run and lent: each mention
+// of it would be stored anew.
+fn symbols(
+    constellation: CostasConstellation,
+    p: Params,
+    track: Track,
+    input: &[f32],
+    output: &mut [f32],
+) -> Track
+    ensures last { λ r. ⌜ r ≡ runs cosList constellation p track (reached (now (input .entry)) (now (output .entry))) .last ⌝ }
+    ensures output { λ _. ⌜ now (output .exit) ≡ written (parts (runs cosList constellation p track (reached (now (input .entry)) (now (output .entry))) .values)) (now (output .entry)) ⌝ }
 {
-    let constellation = s.constellation;
-    let p = s.params;
     let table = tables::cos_f32_table();
     let n = least(input.len() / 2, output.len() / 2);
-    let mut t = s.track;
+    let mut t = track;
     let mut k = 0;
     while k < n {
         let x = values::sample_at(input, k);
@@ -44,10 +54,24 @@ pub fn carry(s: CostasState, input: &[f32], output: &mut [f32]) -> CostasState
         t = carrier::step(constellation, p, t, y);
         k += 1;
     }
+    t
+}
+
+// A run that refuses nothing. The loop is a function of its own, which is handed what it changes and what it
+// reads: a whole state handed to it and back is moved about in memory, which shows in short calls.
+pub fn carry(s: CostasState, input: &[f32], output: &mut [f32]) -> CostasState
+    requires { ⌜ Given s ⌝ }
+    ensures outcome { λ r. ⌜ outcomeOf Done r (now (output .exit)) ≡ carried s (now (input .entry)) (now (output .entry)) ⌝ }
+    ensures given { λ r. ⌜ Given r ⌝ }
+{
+    let c = s.constellation;
+    let p = s.params;
+    let t = s.track;
+    let last = symbols(c, p, t, input, output);
     CostasState {
-        constellation: constellation,
+        constellation: c,
         params: p,
-        track: t,
+        track: last,
     }
 }
 

@@ -19,6 +19,7 @@ use Rattle.carrier.specs.declared.params.Params.{Params}
 use Rattle.carrier.specs.declared.symbol.Track.{Track}
 use Rattle.carrier.specs.Step.{stepped, outputOf, Symbols, runs}
 use Rattle.carrier.proofs.Laws.Count.{runs-count}
+use Rattle.costas.specs.Answered.{reached}
 
 -- a value first
 abbrev more : C32 → Symbols → Symbols
@@ -63,20 +64,18 @@ pub record Underway (table : List Float) (c : CostasConstellation) (p : Params) 
   pub last : runs table c p t (drop k l) .last ≡ runs table c p t₀ l .last
   pub shows : shown ys k (runs table c p t (drop k l)) ≡ shown ys₀ 0 (runs table c p t₀ l)
 
--- the symbols that the input xs and an output with room for m hold
-abbrev pub reached : List Float → ℕ → List C32
-reached xs m = samples (take (2 * m) xs)
-
-reached-count : (xs : List Float) (m : ℕ) → length (reached xs m) ≡ min (length xs / 2) m
-reached-count xs m = ap length (samples-take m xs) ∙ length-take m (samples xs) ∙ omega (arith, length-samples xs)
+reached-count : (xs ys : List Float) → length (reached xs ys) ≡ min (length xs / 2) (length ys / 2)
+reached-count xs ys = ap length (samples-take (length ys / 2) xs) ∙ length-take (length ys / 2) (samples xs) ∙ omega (arith, length-samples xs)
 
 -- the sample that the loop reads is one of them
-pub reached-read : (xs : List Float) (m k : ℕ) → k < length (reached xs m) → {x : C32} → x ≡ getD (samples xs) k silence → x ≡ getD (reached xs m) k silence
-reached-read xs m k h e = e ∙ sym (getD-take m (samples xs) k silence (omega (arith, reached-count xs m))) ∙ ap (λ (l : List C32). getD l k silence) (sym (samples-take m xs))
+pub reached-read : (xs ys : List Float) (k : ℕ) → k < length (reached xs ys) → {x : C32} → x ≡ getD (samples xs) k silence → x ≡ getD (reached xs ys) k silence
+reached-read xs ys k h e =
+    let m = length ys / 2 in
+    e ∙ sym (getD-take m (samples xs) k silence (omega (arith, reached-count xs ys))) ∙ ap (λ (l : List C32). getD l k silence) (sym (samples-take m xs))
 
 module _ {table : List Float} {c : CostasConstellation} {p : Params} {n : ℕ} {t₀ : Track} {ys₀ : List Float} where
-  pub begins : (xs : List Float) → n ≡ min (length xs / 2) (length ys₀ / 2) → n < 2 ^ 61 → Underway table c p (reached xs (length ys₀ / 2)) n t₀ ys₀ t₀ ys₀ 0
-  begins xs e small = record { count = reached-count xs (length ys₀ / 2) ∙ sym e; room = refl; room₀ = omega arith; done = omega arith; small = small; last = refl; shows = refl }
+  pub begins : (xs : List Float) → n ≡ min (length xs / 2) (length ys₀ / 2) → n < 2 ^ 61 → Underway table c p (reached xs ys₀) n t₀ ys₀ t₀ ys₀ 0
+  begins xs e small = record { count = reached-count xs ys₀ ∙ sym e; room = refl; room₀ = omega arith; done = omega arith; small = small; last = refl; shows = refl }
 
   module _ {l : List C32} {t : Track} {ys : List Float} {k : ℕ} (u : Underway table c p l n t₀ ys₀ t ys k) where
     -- the output y of the sample x is stored, and v is the track after it
