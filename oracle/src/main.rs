@@ -50,8 +50,9 @@ usage: oracle play [--reference] SCRIPT   plays a script ('-' reads standard inp
        oracle record FOLDER               writes all recorded answers, FOLDER/NAME/stdin each
        oracle scale [--seed S] [--seconds N | --symbols N | --session K]
                                           compares the ported loops with the original's (feature 'ported')
-       oracle speed [--readme FILE]       times the ported loops (feature 'ported'); the table goes into
-                                          FILE too, between its two lines for it";
+       oracle speed [--fine | --readme FILE]
+                                          times the ported loops (feature 'ported'), with more decimals
+                                          (--fine); the table goes into FILE too, between its two lines for it";
 
 /// Makes the text of one file of recorded answers.
 type Make = fn() -> String;
@@ -91,7 +92,9 @@ fn main() -> ExitCode {
             None => Err(USAGE.to_string()),
         },
         #[cfg(feature = "ported")]
-        ["speed"] => tell(&speed::speed()),
+        ["speed"] => tell(&speed::speed(speed::PLAIN)),
+        #[cfg(feature = "ported")]
+        ["speed", "--fine"] => tell(&speed::speed(speed::FINE)),
         #[cfg(feature = "ported")]
         ["speed", "--readme", file] => {
             speed::speed_into(Path::new(file)).and_then(|report| tell(&report))

@@ -26,9 +26,14 @@ const RUNS: usize = 40;
 /// The recordings are the same every time.
 const SEED: u64 = 1;
 
+/// Decimals of a time that a reader can use.
+pub const PLAIN: usize = 1;
+/// Decimals where two tables are to be compared.
+pub const FINE: usize = 3;
+
 /// The table that the command writes.
-pub fn speed() -> Report {
-    measured(SAMPLES, RUNS).report()
+pub fn speed(decimals: usize) -> Report {
+    measured(SAMPLES, RUNS).report(decimals)
 }
 
 /// The same, and the table goes into a file too, between two lines that it has.
@@ -38,9 +43,9 @@ pub fn speed_into(file: &Path) -> Result<Report, String> {
     let frame = Frame::of(&text).map_err(|error| named(&error))?;
     let table = measured(SAMPLES, RUNS);
     if table.same() {
-        fs::write(file, frame.around(&table.text())).map_err(|error| named(&error))?;
+        fs::write(file, frame.around(&table.text(PLAIN))).map_err(|error| named(&error))?;
     }
-    Ok(table.report())
+    Ok(table.report(PLAIN))
 }
 
 /// Times the receiver, both timing loops and the carrier.
@@ -69,7 +74,7 @@ mod tests {
 
     #[test]
     fn short_recordings_give_the_same() {
-        let report = measured(1_000, 1).report();
+        let report = measured(1_000, 1).report(PLAIN);
         assert!(report.clean, "{}", report.text);
     }
 }

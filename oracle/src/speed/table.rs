@@ -44,10 +44,10 @@ impl Cell {
         self.same &= same;
     }
 
-    /// The three columns.
-    fn text(&self) -> String {
+    /// The three columns, times with so many decimals.
+    fn text(&self, decimals: usize) -> String {
         let [original, ported] = self.best;
-        format!(" {original:.1} | {ported:.1} | {:.2} |", ported / original)
+        format!(" {original:.decimals$} | {ported:.decimals$} | {:.2} |", ported / original)
     }
 }
 
@@ -85,22 +85,22 @@ impl Table {
     }
 
     /// The table itself, in Markdown.
-    pub fn text(&self) -> String {
+    pub fn text(&self, decimals: usize) -> String {
         let mut text = String::from("| ns for each symbol |");
         for (_, block) in BLOCKS {
             text += &format!(" original, {block} | ported, {block} | ratio, {block} |");
         }
         text += &format!("\n|---|{}\n", "---:|".repeat(3 * BLOCKS.len()));
         for row in &self.rows {
-            let cells: String = row.cells.iter().map(Cell::text).collect();
+            let cells: String = row.cells.iter().map(|cell| cell.text(decimals)).collect();
             text += &format!("| {} |{cells}\n", row.name);
         }
         text
     }
 
     /// The table with what it is of.
-    pub fn report(&self) -> Report {
-        let (samples, runs, table) = (self.samples, self.runs, self.text());
+    pub fn report(&self, decimals: usize) -> Report {
+        let (samples, runs, table) = (self.samples, self.runs, self.text(decimals));
         let clean = self.same();
         let end = if clean {
             "the same counts, outputs and states"
