@@ -1,6 +1,5 @@
 -- The error of a symbol is finite, and the turns that its constellation allows leave it alike. Assumes nothing.
 use Prim.Native.Nat.{ℕ, _+_, _*_}
-use mathlib.Core.Bool.{Bool, true, false, cond}
 use lib.Dec.{T}
 use lib.Ieee.{Float}
 use lib.Ieee.Scale.{finite}
@@ -9,6 +8,7 @@ use Rattle.ieee.specs.Notation.{zero₀}
 use Rattle.ieee.proofs.Laws.Like.{like-refl}
 use Rattle.ieee.proofs.Laws.Compare.{like-cond, like-finite}
 use Rattle.values.specs.declared.sample.C32.{C32}
+use Rattle.numbers.proofs.Laws.Range.{finite-or-zero}
 use Rattle.values.specs.Turn.{Turned}
 use Rattle.constellations.specs.declared.kinds.CostasConstellation.{CostasConstellation}
 use Rattle.constellations.specs.Octant.{decisionOf}
@@ -19,11 +19,7 @@ use Rattle.detectors.proofs.Laws.Turning.{turned-detected}
 -- ---- finite
 calmed-finite : (e : Float) → T (finite (calmed e))
 unfolding calmed
-calmed-finite e = go (finite e) (λ t. t)
-  where
-    go : (b : Bool) → (T b → T (finite e)) → T (finite (cond b e zero₀))
-    go true h = h tt
-    go false h = tt
+calmed-finite e = finite-or-zero e
 
 pub error-finite : (c : CostasConstellation) (y : C32) → T (finite (errorOf c y))
 unfolding errorOf

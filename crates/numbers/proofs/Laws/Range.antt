@@ -108,3 +108,11 @@ finite-test f (fin s m e) =
     (λ h. subst (λ (z : ℕ). Exact f z c) (omega arith) (zero-exact f c C))
     (λ h. subst (λ (z : ℕ). Exact f z c) (omega arith) (zero-exact f c C))
     (rounds-same f (sub f x x) _ _ c p p c C C (omega arith) (sub-at f x x (plus x) (less x) (den x) (plus x) (less x) (den x) (den-pos x) (den-pos x) (own-val x tt) (own-val x tt)))))
+
+-- what stands for a number that is not finite, zero, is finite
+pub finite-or-zero : (x : Float) → T (finite (cond (finite x) x zero₀))
+finite-or-zero x = by (finite x) (λ h. h)
+  where
+    by : (b : Bool) → (T b → T (finite x)) → T (finite (cond b x zero₀))
+    by true h = h tt
+    by false h = tt

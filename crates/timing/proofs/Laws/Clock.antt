@@ -10,6 +10,7 @@ use lib.Ieee.Scale.{finite}
 use Rattle.ieee.specs.Notation.{zero₀, half₀}
 use Rattle.ieee.proofs.Laws.Order.{le-trans-float, neg-le}
 use Rattle.numbers.specs.Whole.{floorPlus, floorLess}
+use Rattle.numbers.proofs.Laws.Range.{finite-or-zero}
 use Rattle.timing.specs.declared.params.Params.{Params}
 use Rattle.timing.specs.declared.clock.Clock.{Clock}
 use Rattle.timing.specs.Clock.{midway, midIndex, advanced, moved, settled, Back, On}
@@ -23,11 +24,7 @@ use Rattle.timing.proofs.Laws.Strobe.{beat, v-fits, v-finite, v-above, 
 pub settled-finite : (started : Bool) (e : Float) → T (finite (settled started e))
 unfolding settled
 settled-finite false e = tt
-settled-finite true e = go (finite e) (λ h. h)
-  where
-    go : (b : Bool) → (T b → T (finite e)) → T (finite (cond b e zero₀))
-    go true h = h tt
-    go false h = tt
+settled-finite true e = finite-or-zero e
 
 -- ---- the middle's v: its whole part lies in -525,000 to 0
 record Behind (v : Float) : Type 0 where
