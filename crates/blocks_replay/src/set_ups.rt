@@ -1,7 +1,7 @@
 // What the receiver is set up with: both detectors, and under each all constellations.
+use plain::constellation;
+use plain::detector;
 use receiver::SetUp;
-use replay_states::constellation_of;
-use replay_states::detector_of;
 ghost use Rattle.receiver.specs.Record.{SetUpGiven};
 
 // How many set-ups there are.
@@ -12,8 +12,8 @@ pub(crate) fn set_up(code: u64) -> SetUp
     ensures { λ r. ⌜ SetUpGiven r ⌝ }
 {
     receiver::set_up(
-        constellation_of(code % 3),
-        recordings::timing_defaults(detector_of(code / 3)),
+        constellation((code % 3) as u32),
+        recordings::timing_defaults(detector((code / 3 % 2) as u32)),
         recordings::carrier_defaults(),
     )
 }

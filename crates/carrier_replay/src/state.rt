@@ -6,7 +6,6 @@ use replay::HIGH;
 use replay::Operation;
 use replay::words_agree;
 use replay_states::carrier_agrees;
-use replay_states::constellation_of;
 ghost use Rattle.carrier.specs.State.{Given, SetUpGiven};
 
 // The state after a set-up. The line agrees if it is refused with the recorded number, or accepted where
@@ -36,7 +35,7 @@ fn set_up(s: CostasState, values: &[u64; 5], op: Operation, agrees: &mut bool) -
         return s;
     }
     let answer = carrier::set_up(
-        constellation_of(op.x),
+        plain::constellation(op.x as u32),
         replay::f64_of(values[0]),
         replay::f64_of(values[1]),
         replay::f64_of(values[2]),

@@ -10,7 +10,6 @@ use replay::f64_bits;
 use replay::words_agree;
 use replay_states::answer_agrees;
 use replay_states::carrier_agrees;
-use replay_states::constellation_code;
 use replay_states::timing_agrees;
 ghost use Prim.Native.Nat.{_≤_};
 ghost use Rattle.receiver.specs.Record.{Given};
@@ -98,7 +97,7 @@ fn readings_agree(r: Receiver, op: Operation) -> bool {
     )
         && r.phase() as u64 == op.answer % HIGH
         && r.locked() == (flags % 2 == 1)
-        && constellation_code(r.constellation()) == flags / 2
+        && plain::constellation_code(r.constellation()) as u64 == flags / 2
 }
 
 // Whether what the letter names agrees. No other letter is left.

@@ -4,8 +4,6 @@ use receiver::Receiver;
 use receiver::SetUp;
 use receiver::TimingValues;
 use replay::Operation;
-use replay_states::constellation_of;
-use replay_states::detector_of;
 use timing::Ted;
 ghost use Rattle.receiver.specs.Record.{Given, SetUpGiven};
 
@@ -36,7 +34,7 @@ pub(crate) fn some() -> SetUp
 fn timing_values(timing: &[u64; 5], op: Operation) -> TimingValues {
     TimingValues {
         sps: replay::f64_of(timing[0]),
-        ted: detector_of(op.answer % 2),
+        ted: plain::detector((op.answer % 2) as u32),
         loop_bw: replay::f64_of(timing[1]),
         damping: replay::f64_of(timing[2]),
         max_deviation: replay::f64_of(op.x),
@@ -80,7 +78,7 @@ fn answer(timing: &[u64; 5], carrier: &[u64; 5], op: Operation) -> SetUp
     if op.letter == b'u' {
         receiver::set_up_unnamed(t, c)
     } else {
-        receiver::set_up(constellation_of(op.answer / 2 % 8), t, c)
+        receiver::set_up(plain::constellation((op.answer / 2 % 8) as u32), t, c)
     }
 }
 

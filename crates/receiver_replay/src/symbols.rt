@@ -3,7 +3,6 @@ use replay::Operation;
 use replay::high;
 use replay::low;
 use replay::words_agree;
-use replay_states::constellation_of;
 use values::C32;
 
 // Whether a line with the number of a symbol is right. Of any other line it says what was known.
@@ -18,6 +17,6 @@ pub(crate) fn symbol_agrees(op: Operation, known: bool) -> bool {
         re: high(op.x),
         im: low(op.x),
     };
-    let number = receiver::symbol_number(constellation_of(op.y), y);
+    let number = receiver::symbol_number(plain::constellation(op.y as u32), y);
     words_agree(op.x, op.y, number as u64, op)
 }

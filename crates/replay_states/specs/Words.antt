@@ -12,7 +12,7 @@ use Rattle.complex_sync.specs.declared.state.SymbolSyncState.{SymbolSyncState}
 use Rattle.carrier.specs.declared.state.CostasState.{CostasState}
 use Rattle.replay.specs.declared.line.Operation.{Operation}
 use Rattle.replay.specs.Line.{has}
-use Rattle.replay_states.specs.Codes.{codeOfDetector, codeOf}
+use Rattle.plain.specs.Codes.{detectorCode, constellationCode}
 
 -- ---- bit patterns and flags
 abbrev pub single : Float → ℕ
@@ -42,7 +42,7 @@ timingWords s =
     let t = s .track in
     let c = t .clock in
     double (p .sps) ∷ double (p .«loop_bw») ∷ double (p .damping)
-    ∷ double (p .«max_deviation») ∷ double (p .«ted_gain») ∷ codeOfDetector (p .ted)
+    ∷ double (p .«max_deviation») ∷ double (p .«ted_gain») ∷ detectorCode (p .ted)
     ∷ double (p .kp) ∷ double (p .ki) ∷ double (p .lim)
     ∷ c .i ∷ double (c .mu) ∷ double (c .omega)
     ∷ pair (h .a) ∷ pair (h .b) ∷ pair (h .c)
@@ -59,7 +59,7 @@ carrierWords s =
     double (p .«loop_bw») ∷ double (p .damping) ∷ double (p .«max_offset»)
     ∷ single (p .kp) ∷ single (p .ki) ∷ single (p .max)
     ∷ n .phase ∷ single (n .freq) ∷ double (n .freq)
-    ∷ single (l .level) ∷ flagOf (l .locked) ∷ codeOf (s .constellation)
+    ∷ single (l .level) ∷ flagOf (l .locked) ∷ constellationCode (s .constellation)
     ∷ []
 
 -- ---- a line and a row

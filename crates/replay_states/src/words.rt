@@ -9,10 +9,10 @@
 //   h  the history's three samples
 //   y  previous strobe, previous decision, middle
 //   f  integrator, middle held + 2 started, next strobe
-use crate::codes::constellation_code;
-use crate::codes::detector_code;
 use carrier::CostasState;
 use complex_sync::SymbolSyncState;
+use plain::constellation_code;
+use plain::detector_code;
 use replay::f32_bits;
 use replay::f64_bits;
 use replay::word;
@@ -49,7 +49,7 @@ pub fn timing_words(s: SymbolSyncState) -> [u64; 21]
         f64_bits(s.damping()),
         f64_bits(s.max_deviation()),
         f64_bits(s.ted_gain()),
-        detector_code(s.ted()),
+        detector_code(s.ted()) as u64,
         f64_bits(p.kp),
         f64_bits(p.ki),
         f64_bits(p.lim),
@@ -87,6 +87,6 @@ pub fn carrier_words(s: CostasState) -> [u64; 12]
         f64_bits(s.frequency()),
         f32_bits(s.lock_level()) as u64,
         flag(s.locked()),
-        constellation_code(s.constellation()),
+        constellation_code(s.constellation()) as u64,
     ]
 }

@@ -2,7 +2,6 @@
 use crate::complex as complex_line;
 use crate::real as real_line;
 use replay::Operation;
-use replay_states::detector_of;
 use timing::Ted;
 ghost use Rattle.timing.specs.Run.{OpeningGiven};
 ghost use Rattle.real_sync.specs.Views as realSync;
@@ -30,7 +29,7 @@ struct SixValues {
 fn asked(values: &[u64; 5], op: Operation) -> SixValues {
     SixValues {
         sps: replay::f64_of(values[0]),
-        ted: detector_of(op.answer % 16 / 2),
+        ted: plain::detector((op.answer % 16 / 2) as u32),
         loop_bw: replay::f64_of(values[1]),
         damping: replay::f64_of(values[2]),
         max_deviation: replay::f64_of(op.x),

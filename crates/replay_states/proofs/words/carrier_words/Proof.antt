@@ -1,7 +1,7 @@
 -- `replay_states::carrier_words` meets its contract, word by word. Assumes nothing.
 use mathlib.Core.Path.{ap, _∙_}
 use mathlib.Core.List.{[], _∷_}
-use Rattle.replay_states.specs.Codes.{codeOf}
+use Rattle.plain.specs.Codes.{constellationCode}
 use Rattle.replay_states.specs.Words.{single, double, flagOf, carrierWords}
 use borrow.Author.Needs.{needs}
 use Rattle.replay_states.proofs.words.carrier_words.Statement.{statement}
@@ -18,12 +18,12 @@ returns c =
     ∷ k .before .before .f32-bits .ensures j ∷ k .before .f32-bits2 .ensures j ∷ k .f32-bits3 .ensures j
     ∷ s .before .before .before .phase .ensures j ∷ s .before .before .f32-bits4 .ensures j ∷ (s .f64-bits4 .ensures ∙ ap double (s .before .frequency .ensures)) j
     ∷ (c .before .before .before .before .f32-bits5 .ensures ∙ ap single (c .before .before .before .before .before .lock-level .ensures)) j ∷ (c .before .before .flag .ensures ∙ ap flagOf (c .before .before .before .locked .ensures)) j
-    ∷ (c .constellation-code .ensures ∙ ap codeOf (c .before .constellation .ensures)) j ∷ []
+    ∷ (c .constellation-code .ensures ∙ ap constellationCode (c .before .constellation .ensures)) j ∷ []
 
 pub carrier-words-spec : {M : Type 1} → statement M
 carrier-words-spec =
     tie.close
-    (tie.spec (search needs) (search needs) (search needs) (search needs) (search needs) (search needs)
+    (tie.spec (search needs) (search needs) (search needs) (search needs) (search needs) (search needs) (search needs)
     (search needs) (search needs) (search needs) (search needs) (search needs) (search needs) (search needs)
     (search needs) (search needs) (search needs) (search needs) (search needs) (search needs) (search needs)
     (search needs) (search needs) (search needs) (search needs) (search needs) returns)
