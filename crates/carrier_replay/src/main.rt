@@ -27,13 +27,15 @@ use carrier::CostasState;
 use carrier::SetUp;
 use libc::STDIN_FILENO;
 use replay::LINES;
+use replay::Operation;
 use replay::buffers;
 use replay::tally;
 ghost use Rattle.carrier.specs.State.{Given};
 
-// Plays a line, and counts it.
-fn play_line(
+// Plays an operation, and counts it.
+fn play(
     s: CostasState,
+    op: Operation,
     line: &[u8],
     values: &mut [u64; 5],
     input: &mut [f32; 192],
@@ -43,16 +45,51 @@ fn play_line(
     requires { ⌜ Given s ⌝ }
     ensures { λ r. ⌜ Given r ⌝ }
 {
-    let op = replay::read_operation(line);
     let mut agrees = buffers::play(op, values, input, output);
     let after = state::play(s, op, values, input, output, &mut agrees);
     tally::count_line(tally, counts::place(op.letter), line, agrees);
     after
 }
 
+// Plays an operation with its answer damaged, which has to be seen. Nothing else is left of it.
+fn play_damaged(
+    s: CostasState,
+    op: Operation,
+    values: &[u64; 5],
+    input: &[f32; 192],
+    output: &[f32; 192],
+    damaged: &mut [u64; 16],
+)
+    requires { ⌜ Given s ⌝ }
+{
+    let op = replay::damaged(op);
+    let mut values = *values;
+    let mut input = *input;
+    let mut output = *output;
+    play(s, op, b"", &mut values, &mut input, &mut output, damaged);
+}
+
+// Plays a line, first damaged and then as it is.
+fn play_line(
+    s: CostasState,
+    line: &[u8],
+    values: &mut [u64; 5],
+    input: &mut [f32; 192],
+    output: &mut [f32; 192],
+    tally: &mut [u64; 16],
+    damaged: &mut [u64; 16],
+) -> CostasState
+    requires { ⌜ Given s ⌝ }
+    ensures { λ r. ⌜ Given r ⌝ }
+{
+    let op = replay::read_operation(line);
+    play_damaged(s, op, values, input, output, damaged);
+    play(s, op, line, values, input, output, tally)
+}
+
 // Plays line after line, up to the end of the input. What is left there after the last whole line
 // counts as a line too.
-fn play_lines(first: CostasState, tally: &mut [u64; 16])
+fn play_lines(first: CostasState, tally: &mut [u64; 16], damaged: &mut [u64; 16])
     requires { ⌜ Given first ⌝ }
 {
     let mut values = [0u64; 5];
@@ -66,7 +103,15 @@ fn play_lines(first: CostasState, tally: &mut [u64; 16])
         if n == 0 {
             return;
         }
-        s = play_line(s, &line[..n], &mut values, &mut input, &mut output, tally);
+        s = play_line(
+            s,
+            &line[..n],
+            &mut values,
+            &mut input,
+            &mut output,
+            tally,
+            damaged,
+        );
         left -= 1;
     }
     tally::too_long(tally);
@@ -75,9 +120,10 @@ fn play_lines(first: CostasState, tally: &mut [u64; 16])
 // Some state is there before the first line sets up its own.
 fn main() {
     let mut tally = [0; 16];
+    let mut damaged = tally::of_damaged();
     match carrier::set_up(CostasConstellation::Bpsk, 0.01, 0.7, 0.1) {
-        SetUp::Ready(s) => play_lines(s, &mut tally),
+        SetUp::Ready(s) => play_lines(s, &mut tally, &mut damaged),
         SetUp::Refused(_) => {}
     }
-    counts::show(&tally);
+    counts::show(&tally, &damaged);
 }

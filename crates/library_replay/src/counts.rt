@@ -19,7 +19,7 @@ pub(crate) fn place(letter: u8) -> usize {
 }
 
 // Writes the counts.
-pub(crate) fn show(tally: &[u64; 16]) {
+pub(crate) fn show(tally: &[u64; 16], damaged: &[u64; 16]) {
     show_at(tally, 0, b"set_up");
     show_at(tally, 1, b"reset");
     show_at(tally, 2, b"set_phase");
@@ -28,5 +28,5 @@ pub(crate) fn show(tally: &[u64; 16]) {
     show_at(tally, 5, b"output");
     show_at(tally, 6, b"symbol_number");
     show_at(tally, 7, b"reading");
-    tally::show_end(tally);
+    tally::show_end(tally, damaged);
 }

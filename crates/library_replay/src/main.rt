@@ -15,20 +15,49 @@ mod readings;
 mod run;
 mod slot;
 
+use asked::Asked;
 use libc::STDIN_FILENO;
-use play::play;
+use play::Played;
 use replay::LINES;
+use replay::Operation;
 use replay::tally;
+ghost use Rattle.library_replay.specs.Slot.{SlotGiven};
 
-fn main() {
-    let mut tally = [0; 16];
-    play_lines(&mut tally);
-    counts::show(&tally);
+// Plays an operation on what the last one left, and counts it.
+fn count_played(
+    last: Played,
+    asked: Asked,
+    op: Operation,
+    line: &[u8],
+    tally: &mut [u64; 16],
+) -> Played
+    requires { ⌜ SlotGiven (last .slot) ⌝ }
+    ensures { λ r. ⌜ SlotGiven (r .slot) ⌝ }
+{
+    let played = play::play(last, asked, op);
+    tally::count_line(tally, counts::place(op.letter), line, played.agrees);
+    played
+}
+
+// Plays a line, first with its answer damaged, which has to be seen, and then as it is.
+fn play_line(
+    last: Played,
+    asked: Asked,
+    op: Operation,
+    line: &[u8],
+    tally: &mut [u64; 16],
+    damaged: &mut [u64; 16],
+) -> Played
+    requires { ⌜ SlotGiven (last .slot) ⌝ }
+    ensures { λ r. ⌜ SlotGiven (r .slot) ⌝ }
+{
+    count_played(last, asked, replay::damaged(op), line, damaged);
+    count_played(last, asked, op, line, tally)
 }
 
 // Plays line after line, up to the end of the input. What is left there after the last whole line
 // counts as a line too.
-fn play_lines(tally: &mut [u64; 16]) {
+fn play_lines(tally: &mut [u64; 16], damaged: &mut [u64; 16]) {
     let mut lines = asked::nothing();
     let mut played = play::start();
     let mut left = LINES;
@@ -40,9 +69,15 @@ fn play_lines(tally: &mut [u64; 16]) {
         }
         let op = replay::read_operation(&line[..n]);
         lines = asked::note(lines, op);
-        played = play(played, lines, op);
-        tally::count_line(tally, counts::place(op.letter), &line[..n], played.agrees);
+        played = play_line(played, lines, op, &line[..n], tally, damaged);
         left -= 1;
     }
     tally::too_long(tally);
+}
+
+fn main() {
+    let mut tally = [0; 16];
+    let mut damaged = tally::of_damaged();
+    play_lines(&mut tally, &mut damaged);
+    counts::show(&tally, &damaged);
 }

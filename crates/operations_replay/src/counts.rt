@@ -55,10 +55,10 @@ fn show_numbers(tally: &[u64; 16]) {
 }
 
 // Writes the counts.
-pub fn show(tally: &[u64; 16]) {
+pub fn show(tally: &[u64; 16], damaged: &[u64; 16]) {
     show_numbers(tally);
     show_at(tally, 9, b"interp_f32_pair");
     show_at(tally, 10, b"phase_step_f32");
     show_at(tally, 11, b"phase_step");
-    tally::show_end(tally);
+    tally::show_end(tally, damaged);
 }

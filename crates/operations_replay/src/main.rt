@@ -12,14 +12,12 @@ mod judge;
 use judge::Verdict;
 use libc::STDIN_FILENO;
 use replay::LINES;
+use replay::Operation;
 use replay::Reading;
 use replay::tally;
 
-fn play_line(table: &[f32; 4097], line: &[u8], tally: &mut [u64; 16]) {
-    let Reading::Asks(op) = replay::read_line(line) else {
-        counts::malformed(tally, line);
-        return;
-    };
+// Plays an operation, and counts it.
+fn play(table: &[f32; 4097], op: Operation, line: &[u8], tally: &mut [u64; 16]) {
     match judge::judge(table, op) {
         Verdict::Agrees => counts::agrees(tally, op.letter),
         Verdict::Differs(computed) => counts::differs(tally, op.letter, line, computed),
@@ -27,9 +25,19 @@ fn play_line(table: &[f32; 4097], line: &[u8], tally: &mut [u64; 16]) {
     }
 }
 
+// Plays a line, and once more with its answer damaged, which has to be seen.
+fn play_line(table: &[f32; 4097], line: &[u8], tally: &mut [u64; 16], damaged: &mut [u64; 16]) {
+    let Reading::Asks(op) = replay::read_line(line) else {
+        counts::malformed(tally, line);
+        return;
+    };
+    play(table, op, line, tally);
+    play(table, replay::damaged(op), line, damaged);
+}
+
 // Plays line after line, up to the end of the input. What is left there after the last whole line
 // counts as a line too.
-fn play_lines(table: &[f32; 4097], tally: &mut [u64; 16]) {
+fn play_lines(table: &[f32; 4097], tally: &mut [u64; 16], damaged: &mut [u64; 16]) {
     let mut left = LINES;
     while left > 0 {
         let mut line = [0u8; 53];
@@ -37,7 +45,7 @@ fn play_lines(table: &[f32; 4097], tally: &mut [u64; 16]) {
         if n == 0 {
             return;
         }
-        play_line(table, &line[..n], tally);
+        play_line(table, &line[..n], tally, damaged);
         left -= 1;
     }
     tally::too_long(tally);
@@ -47,6 +55,7 @@ fn play_lines(table: &[f32; 4097], tally: &mut [u64; 16]) {
 fn main() {
     let table = tables::cos_f32_table();
     let mut tally = [0; 16];
-    play_lines(&table, &mut tally);
-    counts::show(&tally);
+    let mut damaged = tally::of_damaged();
+    play_lines(&table, &mut tally, &mut damaged);
+    counts::show(&tally, &damaged);
 }

@@ -42,9 +42,9 @@ fn show_calls(tally: &[u64; 16]) {
 }
 
 // Writes the counts.
-pub(crate) fn show(tally: &[u64; 16]) {
+pub(crate) fn show(tally: &[u64; 16], damaged: &[u64; 16]) {
     show_calls(tally);
     show_at(tally, 8, b"state");
     show_at(tally, 9, b"reading");
-    tally::show_end(tally);
+    tally::show_end(tally, damaged);
 }

@@ -45,6 +45,7 @@ use libc::STDIN_FILENO;
 use receiver::Receiver;
 use receiver::SetUp;
 use replay::LINES;
+use replay::Operation;
 use replay::tally;
 use turned::Turns;
 use turned::next_turns;
@@ -57,9 +58,10 @@ struct Pair {
     turns: Turns,
 }
 
-// Plays a line on both receivers, and counts it.
-fn play_line(
+// Plays an operation on both receivers, and counts it.
+fn play(
     pair: Pair,
+    op: Operation,
     line: &[u8],
     timing: &mut [u64; 5],
     carrier: &mut [u64; 5],
@@ -71,7 +73,6 @@ fn play_line(
     requires { ⌜ Given (pair .first) × Given (pair .second) ⌝ }
     ensures { λ r. ⌜ Given (r .first) × Given (r .second) ⌝ }
 {
-    let op = replay::read_operation(line);
     let mut agrees = workspace::play(op, timing, carrier, input, strobes, output);
     let r = pair.first;
     let first = first::play(r, op, timing, carrier, input, strobes, output, &mut agrees);
@@ -87,9 +88,71 @@ fn play_line(
     }
 }
 
+// Plays an operation with its answer damaged, which has to be seen. Nothing else is left of it.
+fn play_damaged(
+    pair: Pair,
+    op: Operation,
+    timing: &[u64; 5],
+    carrier: &[u64; 5],
+    input: &[f32; 192],
+    strobes: &[f32; 192],
+    output: &[f32; 192],
+    damaged: &mut [u64; 16],
+)
+    requires { ⌜ Given (pair .first) × Given (pair .second) ⌝ }
+{
+    let op = replay::damaged(op);
+    let mut timing = *timing;
+    let mut carrier = *carrier;
+    let mut input = *input;
+    let mut strobes = *strobes;
+    let mut output = *output;
+    play(
+        pair,
+        op,
+        b"",
+        &mut timing,
+        &mut carrier,
+        &mut input,
+        &mut strobes,
+        &mut output,
+        damaged,
+    );
+}
+
+// Plays a line, first damaged and then as it is.
+fn play_line(
+    pair: Pair,
+    line: &[u8],
+    timing: &mut [u64; 5],
+    carrier: &mut [u64; 5],
+    input: &mut [f32; 192],
+    strobes: &mut [f32; 192],
+    output: &mut [f32; 192],
+    tally: &mut [u64; 16],
+    damaged: &mut [u64; 16],
+) -> Pair
+    requires { ⌜ Given (pair .first) × Given (pair .second) ⌝ }
+    ensures { λ r. ⌜ Given (r .first) × Given (r .second) ⌝ }
+{
+    let op = replay::read_operation(line);
+    play_damaged(pair, op, timing, carrier, input, strobes, output, damaged);
+    play(
+        pair,
+        op,
+        line,
+        timing,
+        carrier,
+        input,
+        strobes,
+        output,
+        tally,
+    )
+}
+
 // Plays line after line, up to the end of the input. What is left there after the last whole line
 // counts as a line too.
-fn play_lines(r: Receiver, tally: &mut [u64; 16])
+fn play_lines(r: Receiver, tally: &mut [u64; 16], damaged: &mut [u64; 16])
     requires { ⌜ Given r ⌝ }
 {
     let mut timing = [0u64; 5];
@@ -118,6 +181,7 @@ fn play_lines(r: Receiver, tally: &mut [u64; 16])
             &mut strobes,
             &mut output,
             tally,
+            damaged,
         );
         left -= 1;
     }
@@ -127,9 +191,10 @@ fn play_lines(r: Receiver, tally: &mut [u64; 16])
 // Some receiver is there before the first line sets up its own.
 fn main() {
     let mut tally = [0; 16];
+    let mut damaged = tally::of_damaged();
     match set_up::some() {
-        SetUp::Ready(r) => play_lines(r, &mut tally),
+        SetUp::Ready(r) => play_lines(r, &mut tally, &mut damaged),
         SetUp::Refused(_) => {}
     }
-    counts::show(&tally);
+    counts::show(&tally, &damaged);
 }

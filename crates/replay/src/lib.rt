@@ -19,6 +19,7 @@ pub use compare::same_f32;
 pub use compare::same_f64;
 pub use line::Operation;
 pub use line::Reading;
+pub use line::damaged;
 pub use line::read_line;
 pub use line::read_operation;
 pub use patterns::f32_bits;

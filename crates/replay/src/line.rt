@@ -2,7 +2,7 @@
 use crate::hex::Word;
 use crate::hex::read_word;
 ghost use mathlib.Core.Path.{_≡_};
-ghost use Rattle.replay.specs.Line.{asked, asking, readingOf, spaced};
+ghost use Rattle.replay.specs.Line.{asked, asking, readingOf, spaced, withOtherAnswer};
 
 // What a line asks: the function's letter, the words of its arguments and of its answer.
 pub struct Operation {
@@ -79,5 +79,17 @@ pub fn read_operation(line: &[u8]) -> Operation
             y: 0,
             answer: 0,
         },
+    }
+}
+
+// The line with another answer: one more in the place of sixteen, where a set-up's word has its number.
+pub fn damaged(op: Operation) -> Operation
+    ensures { λ r. ⌜ r ≡ withOtherAnswer op ⌝ }
+{
+    Operation {
+        letter: op.letter,
+        x: op.x,
+        y: op.y,
+        answer: std::num::wrapping_add_u64(op.answer, 16),
     }
 }

@@ -8,7 +8,7 @@ ghost use mathlib.Core.Path.{_≡_};
 ghost use Prim.Native.Nat.{_<_};
 ghost use lib.Dec.{ltb};
 ghost use lib.ListN.{getD};
-ghost use Rattle.replay.specs.Tally.{placeOf, oneMore, counted};
+ghost use Rattle.replay.specs.Tally.{placeOf, oneMore, counted, noneDamaged};
 
 pub const MALFORMED: usize = 12;
 
@@ -20,6 +20,16 @@ const DIFFER: usize = 15;
 
 // So many lines that differ are written.
 const SHOWN: u64 = 20;
+
+// The tally of damaged lines, each of which has to differ. It writes none of them: as many are counted
+// beforehand as are written.
+pub fn of_damaged() -> [u64; 16]
+    ensures { λ r. ⌜ r ≡ noneDamaged ⌝ }
+{
+    let mut tally = [0; 16];
+    tally[DIFFER] = SHOWN;
+    tally
+}
 
 // The place, and that of the malformed lines where there is none.
 fn known(place: usize) -> usize
@@ -79,8 +89,13 @@ pub fn show_at(tally: &[u64; 16], place: usize, name: &[u8]) {
     report(name, tally[known(place)]);
 }
 
-// Writes the last counts: malformed lines, all answers and those that differ.
-pub fn show_end(tally: &[u64; 16]) {
+// Writes the last counts: malformed lines, damaged lines that were seen to differ, all answers and those
+// that differ.
+pub fn show_end(tally: &[u64; 16], damaged: &[u64; 16]) {
     show_at(tally, MALFORMED, b"malformed");
+    report(
+        b"damaged_seen",
+        std::num::wrapping_sub_u64(damaged[DIFFER], SHOWN),
+    );
     summary(tally[LINES], tally[DIFFER]);
 }

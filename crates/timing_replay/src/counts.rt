@@ -35,10 +35,10 @@ fn show_state(tally: &[u64; 16]) {
 }
 
 // Writes the counts.
-pub(crate) fn show(tally: &[u64; 16]) {
+pub(crate) fn show(tally: &[u64; 16], damaged: &[u64; 16]) {
     show_calls(tally);
     show_state(tally);
     show_at(tally, 8, b"parameters");
     show_at(tally, 9, b"gains");
-    tally::show_end(tally);
+    tally::show_end(tally, damaged);
 }

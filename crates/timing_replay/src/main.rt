@@ -27,14 +27,16 @@ mod slot;
 
 use libc::STDIN_FILENO;
 use replay::LINES;
+use replay::Operation;
 use replay::buffers;
 use replay::tally;
 use slot::Slot;
 ghost use Rattle.timing_replay.specs.Slot.{SlotGiven};
 
-// Plays a line, and counts it.
-fn play_line(
+// Plays an operation, and counts it.
+fn play(
     slot: Slot,
+    op: Operation,
     line: &[u8],
     values: &mut [u64; 5],
     input: &mut [f32; 192],
@@ -44,16 +46,51 @@ fn play_line(
     requires { ⌜ SlotGiven slot ⌝ }
     ensures { λ r. ⌜ SlotGiven r ⌝ }
 {
-    let op = replay::read_operation(line);
     let mut agrees = buffers::play(op, values, input, output);
     let after = slot::play(slot, op, values, input, output, &mut agrees);
     tally::count_line(tally, counts::place(op.letter), line, agrees);
     after
 }
 
+// Plays an operation with its answer damaged, which has to be seen. Nothing else is left of it.
+fn play_damaged(
+    slot: Slot,
+    op: Operation,
+    values: &[u64; 5],
+    input: &[f32; 192],
+    output: &[f32; 192],
+    damaged: &mut [u64; 16],
+)
+    requires { ⌜ SlotGiven slot ⌝ }
+{
+    let op = replay::damaged(op);
+    let mut values = *values;
+    let mut input = *input;
+    let mut output = *output;
+    play(slot, op, b"", &mut values, &mut input, &mut output, damaged);
+}
+
+// Plays a line, first damaged and then as it is.
+fn play_line(
+    slot: Slot,
+    line: &[u8],
+    values: &mut [u64; 5],
+    input: &mut [f32; 192],
+    output: &mut [f32; 192],
+    tally: &mut [u64; 16],
+    damaged: &mut [u64; 16],
+) -> Slot
+    requires { ⌜ SlotGiven slot ⌝ }
+    ensures { λ r. ⌜ SlotGiven r ⌝ }
+{
+    let op = replay::read_operation(line);
+    play_damaged(slot, op, values, input, output, damaged);
+    play(slot, op, line, values, input, output, tally)
+}
+
 // Plays line after line, up to the end of the input. What is left there after the last whole line
 // counts as a line too.
-fn play_lines(tally: &mut [u64; 16]) {
+fn play_lines(tally: &mut [u64; 16], damaged: &mut [u64; 16]) {
     let mut values = [0u64; 5];
     let mut input = [0.0f32; 192];
     let mut output = [0.0f32; 192];
@@ -72,6 +109,7 @@ fn play_lines(tally: &mut [u64; 16]) {
             &mut input,
             &mut output,
             tally,
+            damaged,
         );
         left -= 1;
     }
@@ -80,6 +118,7 @@ fn play_lines(tally: &mut [u64; 16]) {
 
 fn main() {
     let mut tally = [0; 16];
-    play_lines(&mut tally);
-    counts::show(&tally);
+    let mut damaged = tally::of_damaged();
+    play_lines(&mut tally, &mut damaged);
+    counts::show(&tally, &damaged);
 }

@@ -6,9 +6,9 @@ use Rattle.carrier_replay.proofs.main.Statement.{statement}
 use Rattle.carrier_replay.proofs.main.Tie as tie
 
 play-lines-requires : tie.Need-play-lines-requires
-play-lines-requires c κs = subst SetUpGiven (c .before .before .s .given .1) (c .before .before .before .before .set-up .ensures .1)
+play-lines-requires c κs = subst SetUpGiven (c .before .before .before .s .given .1) (c .before .before .before .before .before .set-up .ensures .1)
 
 pub main-spec : {M : Type 1} → statement M
 main-spec =
     tie.close
-    (tie.spec (search needs) (search needs) play-lines-requires (search needs) (search needs) (search needs))
+    (tie.spec (search needs) (search needs) (search needs) play-lines-requires (search needs) (search needs) (search needs))

@@ -5,10 +5,10 @@ use Rattle.carrier_replay.proofs.play_lines.Statement.{statement}
 use Rattle.carrier_replay.proofs.play_lines.Tie as tie
 
 abbrev Inv-loop : tie.InvT-loop
-Inv-loop tally₀ values₀ input₀ output₀ s₀ left₀ tally values input output s left = Given s
+Inv-loop tally₀ damaged₀ values₀ input₀ output₀ s₀ left₀ tally damaged values input output s left = Given s
 
 abbrev μ-loop : tie.MeasureT-loop
-μ-loop tally₀ values₀ input₀ output₀ s₀ left₀ tally values input output s left = left
+μ-loop tally₀ damaged₀ values₀ input₀ output₀ s₀ left₀ tally damaged values input output s left = left
 
 pub play-lines-spec : {M : Type 1} → statement M
 play-lines-spec =

@@ -4,10 +4,10 @@ use Rattle.operations_replay.proofs.play_lines.Statement.{statement}
 use Rattle.operations_replay.proofs.play_lines.Tie as tie
 
 abbrev Inv-loop : tie.InvT-loop
-Inv-loop table tally₀ left₀ tally left = Unit {0}
+Inv-loop table tally₀ damaged₀ left₀ tally damaged left = Unit {0}
 
 abbrev μ-loop : tie.MeasureT-loop
-μ-loop table tally₀ left₀ tally left = left
+μ-loop table tally₀ damaged₀ left₀ tally damaged left = left
 
 pub play-lines-spec : {M : Type 1} → statement M
 play-lines-spec =

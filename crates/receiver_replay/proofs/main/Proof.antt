@@ -6,9 +6,9 @@ use Rattle.receiver_replay.proofs.main.Statement.{statement}
 use Rattle.receiver_replay.proofs.main.Tie as tie
 
 play-lines-requires : tie.Need-play-lines-requires
-play-lines-requires c κs = subst SetUpGiven (c .before .before .r .given .1) (c .before .before .before .before .some .ensures)
+play-lines-requires c κs = subst SetUpGiven (c .before .before .before .r .given .1) (c .before .before .before .before .before .some .ensures)
 
 pub main-spec : {M : Type 1} → statement M
 main-spec =
     tie.close
-    (tie.spec (search needs) (search needs) play-lines-requires (search needs) (search needs) (search needs))
+    (tie.spec (search needs) (search needs) (search needs) play-lines-requires (search needs) (search needs) (search needs))

@@ -6,17 +6,17 @@ use Rattle.receiver_replay.proofs.play_lines.Statement.{statement}
 use Rattle.receiver_replay.proofs.play_lines.Tie as tie
 
 abbrev Inv-loop : tie.InvT-loop
-Inv-loop tally₀ timing₀ carrier₀ input₀ strobes₀ output₀ pair₀ left₀ tally timing carrier input strobes output pair left = Given (pair .first) × Given (pair .second)
+Inv-loop tally₀ damaged₀ timing₀ carrier₀ input₀ strobes₀ output₀ pair₀ left₀ tally damaged timing carrier input strobes output pair left = Given (pair .first) × Given (pair .second)
 
 abbrev μ-loop : tie.MeasureT-loop
-μ-loop tally₀ timing₀ carrier₀ input₀ strobes₀ output₀ pair₀ left₀ tally timing carrier input strobes output pair left = left
+μ-loop tally₀ damaged₀ timing₀ carrier₀ input₀ strobes₀ output₀ pair₀ left₀ tally damaged timing carrier input strobes output pair left = left
 
 -- a line may still come
 sub-left : tie.Need-sub-left Inv-loop μ-loop
-sub-left c = omega (arith, c .before .before .before .before .before .before .before .before .before .before .before .before .loop-test .taken)
+sub-left c = omega (arith, c .before .before .before .before .before .before .before .before .before .before .before .before .before .loop-test .taken)
 
 loop-less : tie.Need-loop-less Inv-loop μ-loop
-loop-less c = omega (arith, c .before .before .before .before .before .before .before .before .before .before .before .before .loop-test .taken)
+loop-less c = omega (arith, c .before .before .before .before .before .before .before .before .before .before .before .before .before .loop-test .taken)
 
 pub play-lines-spec : {M : Type 1} → statement M
 play-lines-spec =

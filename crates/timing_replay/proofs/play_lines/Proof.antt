@@ -5,10 +5,10 @@ use Rattle.timing_replay.proofs.play_lines.Statement.{statement}
 use Rattle.timing_replay.proofs.play_lines.Tie as tie
 
 abbrev Inv-loop : tie.InvT-loop
-Inv-loop tally₀ values₀ input₀ output₀ slot₀ left₀ tally values input output slot left = SlotGiven slot
+Inv-loop tally₀ damaged₀ values₀ input₀ output₀ slot₀ left₀ tally damaged values input output slot left = SlotGiven slot
 
 abbrev μ-loop : tie.MeasureT-loop
-μ-loop tally₀ values₀ input₀ output₀ slot₀ left₀ tally values input output slot left = left
+μ-loop tally₀ damaged₀ values₀ input₀ output₀ slot₀ left₀ tally damaged values input output slot left = left
 
 pub play-lines-spec : {M : Type 1} → statement M
 play-lines-spec =
