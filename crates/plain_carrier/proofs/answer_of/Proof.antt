@@ -9,21 +9,6 @@ use borrow.Author.Needs.{needs}
 use Rattle.plain_carrier.proofs.answer_of.Statement.{statement}
 use Rattle.plain_carrier.proofs.answer_of.Tie as tie
 
-enum-known-answer : tie.Need-enum-known-answer
-enum-known-answer c = search needs
-
-record-of-requires : tie.Need-record-of-requires
-record-of-requires c κs = search needs
-
-enum-known-answer-2 : tie.Need-enum-known-answer-2
-enum-known-answer-2 c = search needs
-
-number-requires : tie.Need-number-requires
-number-requires c κs = search needs
-
-no-state-requires : tie.Need-no-state-requires
-no-state-requires c κs = search needs
-
 returns : tie.Need-returns
 returns c =
     let ready = c .before .before .answer .given .1 in (
@@ -41,11 +26,5 @@ returns-2 c =
 pub answer-of-spec : {M : Type 1} → statement M
 answer-of-spec =
     tie.close
-    (tie.spec
-    enum-known-answer
-    record-of-requires
-    enum-known-answer-2
-    number-requires
-    no-state-requires
-    returns
-    returns-2)
+    (tie.spec (λ c. search needs) (λ c κs. search needs) (λ c. search needs) (λ c κs. search needs)
+    (λ c κs. search needs) returns returns-2)

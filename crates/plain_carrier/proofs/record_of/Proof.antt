@@ -6,11 +6,8 @@ use borrow.Author.Needs.{needs}
 use Rattle.plain_carrier.proofs.record_of.Statement.{statement}
 use Rattle.plain_carrier.proofs.record_of.Tie as tie
 
-constellation-code-requires : tie.Need-constellation-code-requires
-constellation-code-requires c κs = search needs
-
 returns : tie.Need-returns
 returns c = ap (withCode (recordOf (c .before .before .before .args .s))) (c .constellation-code .ensures)
 
 pub record-of-spec : {M : Type 1} → statement M
-record-of-spec = tie.close (tie.spec constellation-code-requires returns)
+record-of-spec = tie.close (tie.spec (λ c κs. search needs) returns)

@@ -8,20 +8,8 @@ use borrow.Author.Needs.{needs}
 use Rattle.plain_carrier.proofs.run.Statement.{statement}
 use Rattle.plain_carrier.proofs.run.Tie as tie
 
-state-of-requires : tie.Need-state-of-requires
-state-of-requires c κs = search needs
-
 run-requires : tie.Need-run-requires
 run-requires c κs = came-given carrier-faithful (c .before .state-of .ensures) (c .before .before .before .before .pre)
-
-number-requires : tie.Need-number-requires
-number-requires c κs = search needs
-
-record-of-requires : tie.Need-record-of-requires
-record-of-requires c κs = search needs
-
-same-length : tie.Need-same-length
-same-length c = search needs
 
 returns : tie.Need-returns
 returns c =
@@ -37,4 +25,6 @@ returns c =
 
 pub run-spec : {M : Type 1} → statement M
 run-spec =
-    tie.close (tie.spec state-of-requires run-requires number-requires record-of-requires same-length returns)
+    tie.close
+    (tie.spec (λ c κs. search needs) run-requires (λ c κs. search needs) (λ c κs. search needs)
+    (λ c. search needs) returns)

@@ -6,11 +6,8 @@ use borrow.Author.Needs.{needs}
 use Rattle.plain_carrier.proofs.state_of.Statement.{statement}
 use Rattle.plain_carrier.proofs.state_of.Tie as tie
 
-constellation-requires : tie.Need-constellation-requires
-constellation-requires c κs = search needs
-
 returns : tie.Need-returns
 returns c = ap (withConstellation (stateOf (c .before .before .before .args .x))) (c .constellation .ensures)
 
 pub state-of-spec : {M : Type 1} → statement M
-state-of-spec = tie.close (tie.spec constellation-requires returns)
+state-of-spec = tie.close (tie.spec (λ c κs. search needs) returns)

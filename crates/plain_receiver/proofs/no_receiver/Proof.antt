@@ -3,14 +3,8 @@ use borrow.Author.Needs.{needs}
 use Rattle.plain_receiver.proofs.no_receiver.Statement.{statement}
 use Rattle.plain_receiver.proofs.no_receiver.Tie as tie
 
-no-state-requires : tie.Need-no-state-requires
-no-state-requires c κs = search needs
-
-no-state-requires-2 : tie.Need-no-state-requires-2
-no-state-requires-2 c κs = search needs
-
 returns : tie.Need-returns
 returns c = λ j. record { timing = c .before .no-state .ensures j; carrier = c .no-state2 .ensures j; count = 0 }
 
 pub no-receiver-spec : {M : Type 1} → statement M
-no-receiver-spec = tie.close (tie.spec no-state-requires no-state-requires-2 returns)
+no-receiver-spec = tie.close (tie.spec (λ c κs. search needs) (λ c κs. search needs) returns)

@@ -4,14 +4,8 @@ use borrow.Author.Needs.{needs}
 use Rattle.plain_receiver.proofs.receiver_of.Statement.{statement}
 use Rattle.plain_receiver.proofs.receiver_of.Tie as tie
 
-state-of-requires : tie.Need-state-of-requires
-state-of-requires c κs = search needs
-
-state-of-requires-2 : tie.Need-state-of-requires-2
-state-of-requires-2 c κs = search needs
-
 returns : tie.Need-returns
 returns c = λ j. record { timing = stateOf (c .before .state-of .ensures j); carrier = c .state-of2 .ensures j; count = c .before .before .before .before .args .x .count }
 
 pub receiver-of-spec : {M : Type 1} → statement M
-receiver-of-spec = tie.close (tie.spec state-of-requires state-of-requires-2 returns)
+receiver-of-spec = tie.close (tie.spec (λ c κs. search needs) (λ c κs. search needs) returns)

@@ -3,14 +3,8 @@ use borrow.Author.Needs.{needs}
 use Rattle.plain_receiver.proofs.record_of.Statement.{statement}
 use Rattle.plain_receiver.proofs.record_of.Tie as tie
 
-record-of-requires : tie.Need-record-of-requires
-record-of-requires c κs = search needs
-
-record-of-requires-2 : tie.Need-record-of-requires-2
-record-of-requires-2 c κs = search needs
-
 returns : tie.Need-returns
 returns c = λ j. record { timing = c .before .record-of .ensures j; carrier = c .record-of2 .ensures j; count = c .before .before .before .before .args .r .count }
 
 pub record-of-spec : {M : Type 1} → statement M
-record-of-spec = tie.close (tie.spec record-of-requires record-of-requires-2 returns)
+record-of-spec = tie.close (tie.spec (λ c κs. search needs) (λ c κs. search needs) returns)

@@ -8,23 +8,8 @@ use borrow.Author.Needs.{needs}
 use Rattle.plain_receiver.proofs.run.Statement.{statement}
 use Rattle.plain_receiver.proofs.run.Tie as tie
 
-receiver-of-requires : tie.Need-receiver-of-requires
-receiver-of-requires c κs = search needs
-
 run-requires : tie.Need-run-requires
 run-requires c κs = came-given receiver-faithful (c .before .before .receiver-of .ensures) (c .before .before .before .before .before .before .pre)
-
-counts-of-requires : tie.Need-counts-of-requires
-counts-of-requires c κs = search needs
-
-record-of-requires : tie.Need-record-of-requires
-record-of-requires c κs = search needs
-
-same-length : tie.Need-same-length
-same-length c = search needs
-
-same-length-2 : tie.Need-same-length-2
-same-length-2 c = search needs
 
 returns : tie.Need-returns
 returns c =
@@ -42,11 +27,5 @@ returns c =
 pub run-spec : {M : Type 1} → statement M
 run-spec =
     tie.close
-    (tie.spec
-    receiver-of-requires
-    run-requires
-    counts-of-requires
-    record-of-requires
-    same-length
-    same-length-2
-    returns)
+    (tie.spec (λ c κs. search needs) run-requires (λ c κs. search needs) (λ c κs. search needs)
+    (λ c. search needs) (λ c. search needs) returns)

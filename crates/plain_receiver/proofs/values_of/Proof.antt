@@ -3,13 +3,10 @@ use borrow.Author.Needs.{needs}
 use Rattle.plain_receiver.proofs.values_of.Statement.{statement}
 use Rattle.plain_receiver.proofs.values_of.Tie as tie
 
-detector-requires : tie.Need-detector-requires
-detector-requires c κs = search needs
-
 returns : tie.Need-returns
 returns c =
     let v = c .before .args .v in
     λ j. record { sps = v .sps; ted = c .detector .ensures j; «loop_bw» = v .«loop_bw»; damping = v .damping; «max_deviation» = v .«max_deviation»; «ted_gain» = v .«ted_gain» }
 
 pub values-of-spec : {M : Type 1} → statement M
-values-of-spec = tie.close (tie.spec detector-requires returns)
+values-of-spec = tie.close (tie.spec (λ c κs. search needs) returns)

@@ -8,9 +8,6 @@ use borrow.Author.Needs.{needs}
 use Rattle.receive_recording.proofs.advance.Statement.{statement}
 use Rattle.receive_recording.proofs.advance.Tie as tie
 
-slice-aggregate-fill : tie.Need-slice-aggregate-fill
-slice-aggregate-fill c = search needs
-
 fill-requires : tie.Need-fill-requires
 fill-requires c κs = tt
 
@@ -23,32 +20,14 @@ stopped-requires c κs = tt
 returns : tie.Need-returns
 returns c = subst Given (ap (λ (s : Sofar). s .receiver) (sym (c .stopped .ensures))) (c .before .before .before .before .before .before .pre)
 
-array-share-prefix-bytes : tie.Need-array-share-prefix-bytes
-array-share-prefix-bytes c = search needs
-
-slice-aggregate-read-samples : tie.Need-slice-aggregate-read-samples
-slice-aggregate-read-samples c = search needs
-
-slice-aggregate-read-samples-2 : tie.Need-slice-aggregate-read-samples-2
-slice-aggregate-read-samples-2 c = search needs
-
 read-samples-requires : tie.Need-read-samples-requires
 read-samples-requires c κs = tt
-
-mul-parts : tie.Need-mul-parts
-mul-parts c = search needs
-
-array-share-prefix-input : tie.Need-array-share-prefix-input
-array-share-prefix-input c = search needs
 
 slice-aggregate-content-with : tie.Need-slice-aggregate-content-with
 slice-aggregate-content-with c = let r = c .before .before .read-samples in let k = r .kept in sym (length-take-le _ _ (omega arith))
 
 content-with-requires : tie.Need-content-with-requires
 content-with-requires c κs = tt
-
-array-share-prefix-input-2 : tie.Need-array-share-prefix-input-2
-array-share-prefix-input-2 c = search needs
 
 slice-aggregate-receive : tie.Need-slice-aggregate-receive
 slice-aggregate-receive c = let r = c .before .before .before .before .read-samples in let k = r .kept in sym (length-take-le _ _ (omega arith))
@@ -83,28 +62,8 @@ returns-4 c = c .before .before .before .before .before .before .receive .ensure
 pub advance-spec : {M : Type 1} → statement M
 advance-spec =
     tie.close
-    (tie.spec
-    slice-aggregate-fill
-    fill-requires
-    not-read-requires
-    stopped-requires
-    returns
-    array-share-prefix-bytes
-    slice-aggregate-read-samples
-    slice-aggregate-read-samples-2
-    read-samples-requires
-    mul-parts
-    array-share-prefix-input
-    slice-aggregate-content-with
-    content-with-requires
-    array-share-prefix-input-2
-    slice-aggregate-receive
-    receive-requires
-    not-written-requires
-    stopped-requires-2
-    returns-2
-    refused-requires
-    stopped-requires-3
-    returns-3
-    conclude-requires
-    returns-4)
+    (tie.spec (λ c. search needs) fill-requires not-read-requires stopped-requires returns (λ c. search needs)
+    (λ c. search needs) (λ c. search needs) read-samples-requires (λ c. search needs) (λ c. search needs)
+    slice-aggregate-content-with content-with-requires (λ c. search needs) slice-aggregate-receive
+    receive-requires not-written-requires stopped-requires-2 returns-2 refused-requires stopped-requires-3
+    returns-3 conclude-requires returns-4)

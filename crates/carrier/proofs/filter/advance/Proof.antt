@@ -16,15 +16,6 @@ use Rattle.numbers.proofs.is_finite_f32.Reads as is-finite-f32-reads
 abbrev picked : Float → Bool → Float
 picked e is = cond is e zero₀
 
-is-finite-f32-requires : tie.Need-is-finite-f32-requires
-is-finite-f32-requires c κs = search needs
-
-steer-requires : tie.Need-steer-requires
-steer-requires c κs = search needs
-
-coast-requires : tie.Need-coast-requires
-coast-requires c κs = search needs
-
 returns : tie.Need-returns
 unfolding calmed
 returns c = let a = c .before .before .before .args in c .steer .ensures ∙ (λ j. advanced (a .p) (a .n) (picked (a .e) ((sym (c .before .if1 .taken) ∙ c .before .before .is-finite-f32 .ensures) j)))
@@ -35,4 +26,5 @@ returns-2 c = let a = c .before .before .before .args in c .coast .ensures ∙ (
 
 pub advance-spec : {M : Type 1} → statement M
 advance-spec =
-    tie.close (tie.spec is-finite-f32-requires steer-requires coast-requires returns returns-2)
+    tie.close
+    (tie.spec (λ c κs. search needs) (λ c κs. search needs) (λ c κs. search needs) returns returns-2)

@@ -17,21 +17,6 @@ use Rattle.numbers.proofs.limit_f32.Reads as limit-f32-reads
 use Rattle.numbers.proofs.widen.Reads as widen-reads
 use Rattle.std.proofs.num.wrapping_add_u32.Reads as wrapping-add-u32-reads
 
-flush-denormal-requires : tie.Need-flush-denormal-requires
-flush-denormal-requires c κs = search needs
-
-limit-f32-requires : tie.Need-limit-f32-requires
-limit-f32-requires c κs = search needs
-
-widen-requires : tie.Need-widen-requires
-widen-requires c κs = search needs
-
-phase-step-requires : tie.Need-phase-step-requires
-phase-step-requires c κs = search needs
-
-wrapping-add-u32-requires : tie.Need-wrapping-add-u32-requires
-wrapping-add-u32-requires c κs = search needs
-
 returns : tie.Need-returns
 unfolding newFreq advanced ofBits
 returns c =
@@ -45,10 +30,5 @@ returns c =
 pub coast-spec : {M : Type 1} → statement M
 coast-spec =
     tie.close
-    (tie.spec
-    flush-denormal-requires
-    limit-f32-requires
-    widen-requires
-    phase-step-requires
-    wrapping-add-u32-requires
-    returns)
+    (tie.spec (λ c κs. search needs) (λ c κs. search needs) (λ c κs. search needs) (λ c κs. search needs)
+    (λ c κs. search needs) returns)

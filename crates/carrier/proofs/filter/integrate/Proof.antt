@@ -10,22 +10,14 @@ use Rattle.constellations.proofs.size.Reads as size-reads
 use Rattle.numbers.proofs.flush_denormal.Reads as flush-denormal-reads
 use Rattle.numbers.proofs.limit_f32.Reads as limit-f32-reads
 
-size-requires : tie.Need-size-requires
-size-requires c κs = search needs
-
 returns : tie.Need-returns
 unfolding ofBits round
 returns c = let a = c .before .before .before .args in kept-inside (a .t) (a .limit) (c .before .before .size .ensures) (c .before .if1 .taken) (c .if2 .taken)
-
-flush-denormal-requires : tie.Need-flush-denormal-requires
-flush-denormal-requires c κs = search needs
-
-limit-f32-requires : tie.Need-limit-f32-requires
-limit-f32-requires c κs = search needs
 
 returns-2 : tie.Need-returns-2
 returns-2 c = let a = c .before .before .before .before .args in c .limit-f32 .ensures ∙ ap (λ (x : Float). limited x (a .limit)) (c .before .flush-denormal .ensures)
 
 pub integrate-spec : {M : Type 1} → statement M
 integrate-spec =
-    tie.close (tie.spec size-requires returns flush-denormal-requires limit-f32-requires returns-2)
+    tie.close
+    (tie.spec (λ c κs. search needs) returns (λ c κs. search needs) (λ c κs. search needs) returns-2)

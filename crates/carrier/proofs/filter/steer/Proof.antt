@@ -12,15 +12,6 @@ use Rattle.carrier.proofs.filter.integrate.Reads as integrate-reads
 use Rattle.modulate.proofs.phase_step_f32.Reads as phase-step-f32-reads
 use Rattle.std.proofs.num.wrapping_add_u32.Reads as wrapping-add-u32-reads
 
-integrate-requires : tie.Need-integrate-requires
-integrate-requires c κs = search needs
-
-phase-step-f32-requires : tie.Need-phase-step-f32-requires
-phase-step-f32-requires c κs = search needs
-
-wrapping-add-u32-requires : tie.Need-wrapping-add-u32-requires
-wrapping-add-u32-requires c κs = search needs
-
 returns : tie.Need-returns
 unfolding newFreq advanced
 returns c =
@@ -31,6 +22,4 @@ returns c =
     λ j. record { phase = p j; freq = f j }
 
 pub steer-spec : {M : Type 1} → statement M
-steer-spec =
-    tie.close
-    (tie.spec integrate-requires phase-step-f32-requires wrapping-add-u32-requires returns)
+steer-spec = tie.close (tie.spec (λ c κs. search needs) (λ c κs. search needs) (λ c κs. search needs) returns)

@@ -9,15 +9,6 @@ use Rattle.carrier.specs.Gains.{tau, kpOf, kiOf}
 use Rattle.carrier.proofs.params.loop_gains.Statement.{statement}
 use Rattle.carrier.proofs.params.loop_gains.Tie as tie
 
-inner-gains-requires : tie.Need-inner-gains-requires
-inner-gains-requires c κs = search needs
-
-narrow-requires : tie.Need-narrow-requires
-narrow-requires c κs = search needs
-
-narrow-requires-2 : tie.Need-narrow-requires-2
-narrow-requires-2 c κs = search needs
-
 returns : tie.Need-returns
 unfolding kpOf kiOf ofBits
 returns c =
@@ -28,4 +19,4 @@ returns c =
     }
 
 pub loop-gains-spec : {M : Type 1} → statement M
-loop-gains-spec = tie.close (tie.spec inner-gains-requires narrow-requires narrow-requires-2 returns)
+loop-gains-spec = tie.close (tie.spec (λ c κs. search needs) (λ c κs. search needs) (λ c κs. search needs) returns)

@@ -17,15 +17,6 @@ by-test : (freq max f : Float) (b : Bool) → f ≡ flushed binary32 (narrowed f
 unfolding frequencyOf
 by-test freq max f b e t = ap (λ (d : Bool). cond d zero₀ (limited f max)) (sym t ∙ differs-is f) ∙ ap (λ (x : Float). cond (isNan x) zero₀ (limited x max)) e
 
-narrow-requires : tie.Need-narrow-requires
-narrow-requires c κs = search needs
-
-flush-denormal-requires : tie.Need-flush-denormal-requires
-flush-denormal-requires c κs = search needs
-
-limit-f32-requires : tie.Need-limit-f32-requires
-limit-f32-requires c κs = search needs
-
 returns : tie.Need-returns
 unfolding ofBits
 returns c = by-test _ _ _ true (c .before .flush-denormal .ensures ∙ ap (flushed binary32) (c .before .before .narrow .ensures)) (c .if1 .taken)
@@ -36,4 +27,4 @@ returns-2 c = c .limit-f32 .ensures ∙ by-test _ _ _ false (c .before .before .
 pub frequency-of-spec : {M : Type 1} → statement M
 frequency-of-spec =
     tie.close
-    (tie.spec narrow-requires flush-denormal-requires limit-f32-requires returns returns-2)
+    (tie.spec (λ c κs. search needs) (λ c κs. search needs) (λ c κs. search needs) returns returns-2)

@@ -7,15 +7,6 @@ use borrow.Author.Needs.{needs}
 use Rattle.carrier.proofs.state.params_of.Statement.{statement}
 use Rattle.carrier.proofs.state.params_of.Tie as tie
 
-loop-gains-requires : tie.Need-loop-gains-requires
-loop-gains-requires c κs = search needs
-
-narrow-requires : tie.Need-narrow-requires
-narrow-requires c κs = search needs
-
-flush-denormal-requires : tie.Need-flush-denormal-requires
-flush-denormal-requires c κs = search needs
-
 returns : tie.Need-returns
 unfolding paramsOf
 returns c =
@@ -25,5 +16,4 @@ returns c =
     λ j. record { «loop_bw» = a .loop-bw; damping = a .damping; «max_offset» = a .max-offset; kp = g j .kp; ki = g j .ki; max = m j }
 
 pub params-of-spec : {M : Type 1} → statement M
-params-of-spec =
-    tie.close (tie.spec loop-gains-requires narrow-requires flush-denormal-requires returns)
+params-of-spec = tie.close (tie.spec (λ c κs. search needs) (λ c κs. search needs) (λ c κs. search needs) returns)

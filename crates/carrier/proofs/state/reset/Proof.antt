@@ -7,11 +7,8 @@ use borrow.Author.Needs.{needs}
 use Rattle.carrier.proofs.state.reset.Statement.{statement}
 use Rattle.carrier.proofs.state.reset.Tie as tie
 
-start-requires : tie.Need-start-requires
-start-requires c κs = search needs
-
 returns : tie.Need-returns
 returns c = let e = c .start .ensures in (e, subst (λ (s : CostasState). Given s) (sym e) (fresh-given _ _ (c .before .before .pre .accepted)))
 
 pub reset-spec : {M : Type 1} → statement M
-reset-spec = tie.close (tie.spec start-requires returns)
+reset-spec = tie.close (tie.spec (λ c κs. search needs) returns)

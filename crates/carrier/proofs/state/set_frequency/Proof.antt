@@ -8,9 +8,6 @@ use borrow.Author.Needs.{needs}
 use Rattle.carrier.proofs.state.set_frequency.Statement.{statement}
 use Rattle.carrier.proofs.state.set_frequency.Tie as tie
 
-frequency-of-requires : tie.Need-frequency-of-requires
-frequency-of-requires c κs = search needs
-
 returns : tie.Need-returns
 returns c =
     let a = c .before .before .before .args in
@@ -20,4 +17,4 @@ returns c =
     (e, subst (λ (t : CostasState). Given t) (sym e) (frequencySet-given s (a .freq) (c .before .before .before .pre)))
 
 pub set-frequency-spec : {M : Type 1} → statement M
-set-frequency-spec = tie.close (tie.spec frequency-of-requires returns)
+set-frequency-spec = tie.close (tie.spec (λ c κs. search needs) returns)

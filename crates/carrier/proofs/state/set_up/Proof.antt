@@ -28,21 +28,6 @@ passed3 : (c : tie.Else3) → inRange zero₀ (c .before .before .before .before
 unfolding ofBits round
 passed3 c = passes (c .before .within3 .ensures) (c .if3 .left)
 
-within-requires : tie.Need-within-requires
-within-requires c κs = search needs
-
-within-requires-2 : tie.Need-within-requires-2
-within-requires-2 c κs = search needs
-
-within-requires-3 : tie.Need-within-requires-3
-within-requires-3 c κs = search needs
-
-params-of-requires : tie.Need-params-of-requires
-params-of-requires c κs = search needs
-
-start-requires : tie.Need-start-requires
-start-requires c κs = search needs
-
 returns : tie.Need-returns
 unfolding opened ofBits round
 returns c = (sym (first-refused Refused _ _ _ (fails (c .before .within .ensures) (c .if1 .taken))), tt)
@@ -66,13 +51,5 @@ returns-4 c =
 pub set-up-spec : {M : Type 1} → statement M
 set-up-spec =
     tie.close
-    (tie.spec
-    within-requires
-    returns
-    within-requires-2
-    returns-2
-    within-requires-3
-    returns-3
-    params-of-requires
-    start-requires
-    returns-4)
+    (tie.spec (λ c κs. search needs) returns (λ c κs. search needs) returns-2 (λ c κs. search needs) returns-3
+    (λ c κs. search needs) (λ c κs. search needs) returns-4)

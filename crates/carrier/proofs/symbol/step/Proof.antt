@@ -14,21 +14,6 @@ use Rattle.detectors.proofs.lock_metric.Reads as lock-metric-reads
 use Rattle.detectors.proofs.watch.Reads as watch-reads
 use Rattle.constellations.proofs.decide.Reads as decide-reads
 
-decide-requires : tie.Need-decide-requires
-decide-requires c κs = search needs
-
-detector-requires : tie.Need-detector-requires
-detector-requires c κs = search needs
-
-advance-requires : tie.Need-advance-requires
-advance-requires c κs = search needs
-
-lock-metric-requires : tie.Need-lock-metric-requires
-lock-metric-requires c κs = search needs
-
-watch-requires : tie.Need-watch-requires
-watch-requires c κs = search needs
-
 returns : tie.Need-returns
 unfolding stepped errorOf
 returns c =
@@ -43,10 +28,5 @@ returns c =
 pub step-spec : {M : Type 1} → statement M
 step-spec =
     tie.close
-    (tie.spec
-    decide-requires
-    detector-requires
-    advance-requires
-    lock-metric-requires
-    watch-requires
-    returns)
+    (tie.spec (λ c κs. search needs) (λ c κs. search needs) (λ c κs. search needs) (λ c κs. search needs)
+    (λ c κs. search needs) returns)

@@ -7,9 +7,6 @@ use Rattle.checks.specs.Range.{positive}
 use Rattle.checks.proofs.range.above_zero.Statement.{statement}
 use Rattle.checks.proofs.range.above_zero.Tie as tie
 
-is-finite-f64-requires : tie.Need-is-finite-f64-requires
-is-finite-f64-requires c κs = search needs
-
 returns : tie.Need-returns
 unfolding positive ofBits
 returns c = and-held (sym (c .before .is-finite-f64 .ensures) ∙ c .if1 .taken) refl
@@ -19,4 +16,4 @@ unfolding positive
 returns-2 c = and-failed _ (sym (c .before .is-finite-f64 .ensures) ∙ c .if1 .left) (c .before .is-finite-f64 .ensures)
 
 pub above-zero-spec : {M : Type 1} → statement M
-above-zero-spec = tie.close (tie.spec is-finite-f64-requires returns returns-2)
+above-zero-spec = tie.close (tie.spec (λ c κs. search needs) returns returns-2)

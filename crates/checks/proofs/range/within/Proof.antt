@@ -10,9 +10,6 @@ use Rattle.checks.specs.Range.{inRange}
 use Rattle.checks.proofs.range.within.Statement.{statement}
 use Rattle.checks.proofs.range.within.Tie as tie
 
-is-finite-f64-requires : tie.Need-is-finite-f64-requires
-is-finite-f64-requires c κs = search needs
-
 -- the first two tests
 low : (c : tie.Joined1) → c .if1 .if2 ≡ (finite (c .before .before .args .x) && le (c .before .before .args .lo) (c .before .before .args .x))
 low c =
@@ -31,4 +28,4 @@ unfolding inRange
 returns-2 c = and-failed _ (sym (low (c .before)) ∙ c .if2 .left) (low (c .before))
 
 pub within-spec : {M : Type 1} → statement M
-within-spec = tie.close (tie.spec is-finite-f64-requires returns returns-2)
+within-spec = tie.close (tie.spec (λ c κs. search needs) returns returns-2)

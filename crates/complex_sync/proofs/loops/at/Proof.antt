@@ -10,24 +10,12 @@ use borrow.Author.Needs.{needs}
 use Rattle.complex_sync.proofs.loops.at.Statement.{statement}
 use Rattle.complex_sync.proofs.loops.at.Tie as tie
 
-returns : tie.Need-returns
-returns c = search needs
-
-returns-2 : tie.Need-returns-2
-returns-2 c = search needs
-
-returns-3 : tie.Need-returns-3
-returns-3 c = search needs
-
-sub-sample-at : tie.Need-sub-sample-at
-sub-sample-at c = search needs
-
-sample-at-requires : tie.Need-sample-at-requires
-sample-at-requires c κs = search needs
-
 returns-4 : tie.Need-returns-4
 unfolding ofBits
 returns-4 c = let a = c .before .before .before .before .before .args in c .sample-at .ensures ∙ past-history (hist (a .h)) (samples (a .input .now)) _ (a .j) (a .j - 3) (omega arith)
 
 pub at-spec : {M : Type 1} → statement M
-at-spec = tie.close (tie.spec returns returns-2 returns-3 sub-sample-at sample-at-requires returns-4)
+at-spec =
+    tie.close
+    (tie.spec (λ c. search needs) (λ c. search needs) (λ c. search needs) (λ c. search needs)
+    (λ c κs. search needs) returns-4)

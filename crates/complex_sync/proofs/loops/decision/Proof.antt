@@ -6,15 +6,6 @@ use borrow.Author.Needs.{needs}
 use Rattle.complex_sync.proofs.loops.decision.Statement.{statement}
 use Rattle.complex_sync.proofs.loops.decision.Tie as tie
 
-enum-told : tie.Need-enum-told
-enum-told c = search needs
-
-enum-told-2 : tie.Need-enum-told-2
-enum-told-2 c = search needs
-
-decide-requires : tie.Need-decide-requires
-decide-requires c κs = search needs
-
 returns : tie.Need-returns
 unfolding decision
 returns c = let a = c .before .before .args in λ j. decision complex (sym (c .enum-told .given .1) j) (a .d-prev) (a .y)
@@ -24,4 +15,4 @@ unfolding decision
 returns-2 c = let a = c .before .before .before .args in c .decide .ensures ∙ (λ j. decision complex (sym (c .before .enum-told2 .given .1) j) (a .d-prev) (a .y))
 
 pub decision-spec : {M : Type 1} → statement M
-decision-spec = tie.close (tie.spec enum-told enum-told-2 decide-requires returns returns-2)
+decision-spec = tie.close (tie.spec (λ c. search needs) (λ c. search needs) (λ c κs. search needs) returns returns-2)

@@ -29,12 +29,6 @@ returns c =
     let s = c .before .before .before in
     (sym (calledComplex-refused (sync (s .args .s)) (s .args .input .now) (s .args .output .now) (odd c)), s .pre)
 
-recover-requires : tie.Need-recover-requires
-recover-requires c κs = search needs
-
-same-length : tie.Need-same-length
-same-length c = search needs
-
 returns-2 : tie.Need-returns-2
 returns-2 c =
     let s = c .before .before .before .before .before .before .before .before .before .before in
@@ -45,4 +39,4 @@ returns-2 c =
     (e, subst (λ (r : Outcome C32). Given (r .state)) (sym e) (calledComplex-given (sync (s .args .s)) xs ys (s .pre)))
 
 pub run-spec : {M : Type 1} → statement M
-run-spec = tie.close (tie.spec returns recover-requires same-length returns-2)
+run-spec = tie.close (tie.spec returns (λ c κs. search needs) (λ c. search needs) returns-2)

@@ -24,12 +24,6 @@ loop-holds c =
 take-mid-requires : tie.Need-take-mid-requires Inv-loop μ-loop
 take-mid-requires c κs = c .before .loop .inv .running
 
-lacks-requires : tie.Need-lacks-requires Inv-loop μ-loop
-lacks-requires c κs = search needs
-
-can-strobe-requires : tie.Need-can-strobe-requires Inv-loop μ-loop
-can-strobe-requires c κs = search needs
-
 value-at-requires : tie.Need-value-at-requires Inv-loop μ-loop
 value-at-requires c κs = turn-window (c .before .before .before .before .before .loop .inv) (c .before .before .before .take-mid .ensures) (c .before .before .lacks .ensures) (c .before .can-strobe .ensures) (c .if1 .left)
 
@@ -37,9 +31,6 @@ strobe-requires : tie.Need-strobe-requires Inv-loop μ-loop
 strobe-requires c κs =
     let t = c .before in
     turn-strobe (t .before .before .before .before .before .loop .inv) (t .before .before .before .take-mid .ensures) (t .before .before .lacks .ensures) (t .before .can-strobe .ensures) (t .if1 .left)
-
-store-sample-requires : tie.Need-store-sample-requires Inv-loop μ-loop
-store-sample-requires c κs = search needs
 
 add-produced : tie.Need-add-produced Inv-loop μ-loop
 add-produced c = omega arith
@@ -70,20 +61,6 @@ returns-2 c = ends-stopped (c .before .before .before .before .before .loop .inv
 pub strobes-spec : {M : Type 1} → statement M
 strobes-spec =
     tie.close
-    (tie.spec
-    Inv-loop
-    μ-loop
-    loop-holds
-    take-mid-requires
-    lacks-requires
-    can-strobe-requires
-    value-at-requires
-    strobe-requires
-    store-sample-requires
-    add-produced
-    loop-less
-    loop-again
-    same-length
-    returns
-    same-length-2
-    returns-2)
+    (tie.spec Inv-loop μ-loop loop-holds take-mid-requires (λ c κs. search needs) (λ c κs. search needs)
+    value-at-requires strobe-requires (λ c κs. search needs) add-produced loop-less loop-again same-length returns
+    same-length-2 returns-2)

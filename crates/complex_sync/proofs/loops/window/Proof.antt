@@ -12,51 +12,6 @@ use borrow.Author.Needs.{needs}
 use Rattle.complex_sync.proofs.loops.window.Statement.{statement}
 use Rattle.complex_sync.proofs.loops.window.Tie as tie
 
-sub-at : tie.Need-sub-at
-sub-at c = search needs
-
-at-requires : tie.Need-at-requires
-at-requires c κs = search needs
-
-at-requires-2 : tie.Need-at-requires-2
-at-requires-2 c κs = search needs
-
-add-at : tie.Need-add-at
-add-at c = search needs
-
-at-requires-3 : tie.Need-at-requires-3
-at-requires-3 c κs = search needs
-
-add-at-2 : tie.Need-add-at-2
-add-at-2 c = search needs
-
-at-requires-4 : tie.Need-at-requires-4
-at-requires-4 c κs = search needs
-
-sample-at-requires : tie.Need-sample-at-requires
-sample-at-requires c κs = search needs
-
-sub-sample-at : tie.Need-sub-sample-at
-sub-sample-at c = search needs
-
-sample-at-requires-2 : tie.Need-sample-at-requires-2
-sample-at-requires-2 c κs = search needs
-
-sub-sample-at-2 : tie.Need-sub-sample-at-2
-sub-sample-at-2 c = search needs
-
-sample-at-requires-3 : tie.Need-sample-at-requires-3
-sample-at-requires-3 c κs = search needs
-
-sub-sample-at-3 : tie.Need-sub-sample-at-3
-sub-sample-at-3 c = search needs
-
-sample-at-requires-4 : tie.Need-sample-at-requires-4
-sample-at-requires-4 c κs = search needs
-
-returns : tie.Need-returns
-returns c = search needs
-
 returns-2 : tie.Need-returns-2
 unfolding ofBits
 returns-2 c =
@@ -72,20 +27,7 @@ returns-2 c =
 pub window-spec : {M : Type 1} → statement M
 window-spec =
     tie.close
-    (tie.spec
-    sub-at
-    at-requires
-    at-requires-2
-    add-at
-    at-requires-3
-    add-at-2
-    at-requires-4
-    sample-at-requires
-    sub-sample-at
-    sample-at-requires-2
-    sub-sample-at-2
-    sample-at-requires-3
-    sub-sample-at-3
-    sample-at-requires-4
-    returns
-    returns-2)
+    (tie.spec (λ c. search needs) (λ c κs. search needs) (λ c κs. search needs) (λ c. search needs)
+    (λ c κs. search needs) (λ c. search needs) (λ c κs. search needs) (λ c κs. search needs) (λ c. search needs)
+    (λ c κs. search needs) (λ c. search needs) (λ c κs. search needs) (λ c. search needs) (λ c κs. search needs)
+    (λ c. search needs) returns-2)

@@ -11,9 +11,6 @@ use borrow.Author.Needs.{needs}
 use Rattle.complex_sync.proofs.state.start.Statement.{statement}
 use Rattle.complex_sync.proofs.state.start.Tie as tie
 
-fresh-clock-requires : tie.Need-fresh-clock-requires
-fresh-clock-requires c κs = search needs
-
 returns : tie.Need-returns
 unfolding ofBits
 returns c =
@@ -23,4 +20,4 @@ returns c =
     (e, subst Given (sym e) (fresh-given complex (a .p) (c .before .pre)))
 
 pub start-spec : {M : Type 1} → statement M
-start-spec = tie.close (tie.spec fresh-clock-requires returns)
+start-spec = tie.close (tie.spec (λ c κs. search needs) returns)

@@ -6,18 +6,6 @@ use Rattle.constellations.specs.Octant.{decisionOf}
 use Rattle.constellations.proofs.octants.decide.Statement.{statement}
 use Rattle.constellations.proofs.octants.decide.Tie as tie
 
-enum-told : tie.Need-enum-told
-enum-told c = search needs
-
-enum-told-2 : tie.Need-enum-told-2
-enum-told-2 c = search needs
-
-enum-told-3 : tie.Need-enum-told-3
-enum-told-3 c = search needs
-
-point8-requires : tie.Need-point8-requires
-point8-requires c κs = search needs
-
 returns : tie.Need-returns
 unfolding decisionOf ofBits
 returns c = λ j. decisionOf (sym (c .enum-told .given .1) j) (c .before .before .args .y)
@@ -33,4 +21,5 @@ returns-3 c = c .point8 .ensures ∙ (λ j. decisionOf (sym (c .before .enum-tol
 pub decide-spec : {M : Type 1} → statement M
 decide-spec =
     tie.close
-    (tie.spec enum-told enum-told-2 enum-told-3 point8-requires returns returns-2 returns-3)
+    (tie.spec (λ c. search needs) (λ c. search needs) (λ c. search needs) (λ c κs. search needs) returns returns-2
+    returns-3)

@@ -7,12 +7,6 @@ use borrow.Author.Needs.{needs}
 use Rattle.constellations.proofs.octants.half.Statement.{statement}
 use Rattle.constellations.proofs.octants.half.Tie as tie
 
-add-result : tie.Need-add-result
-add-result c = search needs
-
-returns : tie.Need-returns
-returns c = search needs
-
 returns-2 : tie.Need-returns-2
 returns-2 c = let k = c .before .before .before .args .k in λ j. cond (sym (c .before .before .if1 .taken) j && sym (c .before .if2 .taken) j) (cond (sym (c .if3 .left) j) k (k + 1)) 0
 
@@ -25,4 +19,4 @@ returns-3 c =
     ]
 
 pub half-spec : {M : Type 1} → statement M
-half-spec = tie.close (tie.spec add-result returns returns-2 returns-3)
+half-spec = tie.close (tie.spec (λ c. search needs) (λ c. search needs) returns-2 returns-3)

@@ -9,24 +9,6 @@ use Rattle.constellations.proofs.Laws.Octant.{octant-below, octant-sum}
 use Rattle.constellations.proofs.octants.octant.Statement.{statement}
 use Rattle.constellations.proofs.octants.octant.Tie as tie
 
-size-requires : tie.Need-size-requires
-size-requires c κs = search needs
-
-size-requires-2 : tie.Need-size-requires-2
-size-requires-2 c κs = search needs
-
-half-requires : tie.Need-half-requires
-half-requires c κs = search needs
-
-half-requires-2 : tie.Need-half-requires-2
-half-requires-2 c κs = search needs
-
-half-requires-3 : tie.Need-half-requires-3
-half-requires-3 c κs = search needs
-
-half-requires-4 : tie.Need-half-requires-4
-half-requires-4 c κs = search needs
-
 abbrev sample : tie.After-half4 → C32
 sample c = c .before .before .before .before .before .before .before .before .before .before .before .before .before .before .args .y
 
@@ -48,14 +30,5 @@ add-result-3 c = omega (arith, returns c, octant-below (sample c))
 pub octant-spec : {M : Type 1} → statement M
 octant-spec =
     tie.close
-    (tie.spec
-    size-requires
-    size-requires-2
-    half-requires
-    half-requires-2
-    half-requires-3
-    half-requires-4
-    add-result
-    add-result-2
-    add-result-3
-    returns)
+    (tie.spec (λ c κs. search needs) (λ c κs. search needs) (λ c κs. search needs) (λ c κs. search needs)
+    (λ c κs. search needs) (λ c κs. search needs) add-result add-result-2 add-result-3 returns)

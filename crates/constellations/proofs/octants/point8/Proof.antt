@@ -9,9 +9,6 @@ use Rattle.constellations.proofs.Laws.Octant.{octant-below}
 use Rattle.constellations.proofs.octants.point8.Statement.{statement}
 use Rattle.constellations.proofs.octants.point8.Tie as tie
 
-octant-requires : tie.Need-octant-requires
-octant-requires c κs = search needs
-
 mul-result : tie.Need-mul-result
 mul-result c = omega (arith, c .octant .ensures, octant-below (c .before .args .y))
 
@@ -23,4 +20,4 @@ unfolding points8 ofBits neg
 returns c = getD-default points8 (c .before .octant .result) _ _ (array-copy-out-result (c .before)) ∙ ap pointAt (c .before .octant .ensures)
 
 pub point8-spec : {M : Type 1} → statement M
-point8-spec = tie.close (tie.spec octant-requires mul-result array-copy-out-result returns)
+point8-spec = tie.close (tie.spec (λ c κs. search needs) mul-result array-copy-out-result returns)

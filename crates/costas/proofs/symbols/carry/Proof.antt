@@ -31,12 +31,6 @@ shown s xs ys = runs cosList (s .constellation) (s .params) (s .track) (reached 
 whole : (s : CostasState) (xs ys : List Float) → Given s → {t : Track} → t ≡ shown s xs ys .last → {zs : List Float} → zs ≡ written (parts (shown s xs ys .values)) ys → (outcomeOf Done (with s t) zs ≡ carried s xs ys) × Given (with s t)
 whole s xs ys g e f = (λ j. record { number = 0; state = with s (e j); output = f j }, subst (λ (t : Track). Given (with s t)) (sym e) (done-given s (take (2 * (length ys / 2)) xs) g))
 
-symbols-requires : tie.Need-symbols-requires
-symbols-requires c κs = search needs
-
-same-length : tie.Need-same-length
-same-length c = search needs
-
 returns : tie.Need-returns
 returns c =
     let s = c .before .before .before .before .before .before .before .before in
@@ -45,4 +39,4 @@ returns c =
     whole (a .s) (a .input .now) (a .output .now) (s .pre) (e .0) (e .1)
 
 pub carry-spec : {M : Type 1} → statement M
-carry-spec = tie.close (tie.spec symbols-requires same-length returns)
+carry-spec = tie.close (tie.spec (λ c κs. search needs) (λ c. search needs) returns)

@@ -26,9 +26,6 @@ use Rattle.costas.proofs.symbols.run.Tie as tie
 kept : {s : CostasState} (xs ys : List Float) {o : Outcome} → Given s → o ≡ called s xs ys → (o ≡ called s xs ys) × Given (o .state)
 kept {s} xs ys g e = (e, subst (λ (r : Outcome). Given (r .state)) (sym e) (called-given s xs ys g))
 
-refused-requires : tie.Need-refused-requires
-refused-requires c κs = search needs
-
 odd : (c : tie.Joined1) → let a = c .before .before .before .args in oddEither (a .input .now) (a .output .now) ≡ true
 odd c =
     let a = c .before .before .before .args in
@@ -43,21 +40,12 @@ returns c =
     let a = s .args in
     kept (a .input .now) (a .output .now) (s .pre) (ap (λ (r : Ran). answered r (a .output .now)) (c .refused .ensures) ∙ sym (called-odd (a .s) (a .input .now) (a .output .now) (odd (c .before))))
 
-refused-requires-2 : tie.Need-refused-requires-2
-refused-requires-2 c κs = search needs
-
 returns-2 : tie.Need-returns-2
 returns-2 c =
     let s = c .before .before .before .before .before .before in
     let a = s .args in
     let even = both-even (a .input .now) (a .output .now) (c .before .before .before .if1 .left) (eqb-false (length (a .output .now) % 2) 1 (c .before .before .if2 .left)) in
     kept (a .input .now) (a .output .now) (s .pre) (ap (λ (r : Ran). answered r (a .output .now)) (c .refused2 .ensures) ∙ sym (called-uneven (a .s) (a .input .now) (a .output .now) even (c .before .if3 .taken)))
-
-carry-requires : tie.Need-carry-requires
-carry-requires c κs = search needs
-
-same-length : tie.Need-same-length
-same-length c = search needs
 
 returns-3 : tie.Need-returns-3
 returns-3 c =
@@ -70,4 +58,7 @@ returns-3 c =
     kept (a .input .now) (a .output .now) (s .pre) (c .before .before .carry .ensures .0 ∙ whole ∙ sym (called-done (a .s) (a .input .now) (a .output .now) even equal))
 
 pub run-spec : {M : Type 1} → statement M
-run-spec = tie.close (tie.spec refused-requires returns refused-requires-2 returns-2 carry-requires same-length returns-3)
+run-spec =
+    tie.close
+    (tie.spec (λ c κs. search needs) returns (λ c κs. search needs) returns-2 (λ c κs. search needs)
+    (λ c. search needs) returns-3)

@@ -15,29 +15,8 @@ Inv-loop constellation p input output₀ table n t₀ k₀ output t k = Underway
 abbrev μ-loop : tie.MeasureT-loop
 μ-loop constellation p input output₀ table n t₀ k₀ output t k = n - k
 
-cos-f32-table-requires : tie.Need-cos-f32-table-requires Inv-loop μ-loop
-cos-f32-table-requires c κs = search needs
-
-least-requires : tie.Need-least-requires Inv-loop μ-loop
-least-requires c κs = search needs
-
 loop-holds : tie.Need-loop-holds Inv-loop μ-loop
 loop-holds c = let a = c .before .before .before .before .args in begins (a .input .now) (c .least .ensures) (omega (arith, c .least .ensures))
-
-sample-at-requires : tie.Need-sample-at-requires Inv-loop μ-loop
-sample-at-requires c κs = search needs
-
-interp-f32-pair-requires : tie.Need-interp-f32-pair-requires Inv-loop μ-loop
-interp-f32-pair-requires c κs = search needs
-
-derotate-requires : tie.Need-derotate-requires Inv-loop μ-loop
-derotate-requires c κs = search needs
-
-store-sample-requires : tie.Need-store-sample-requires Inv-loop μ-loop
-store-sample-requires c κs = search needs
-
-step-requires : tie.Need-step-requires Inv-loop μ-loop
-step-requires c κs = search needs
 
 add-k : tie.Need-add-k Inv-loop μ-loop
 add-k c = let u = c .before .before .before .before .before .before .before .before .before .before .loop .inv .small in omega arith
@@ -62,19 +41,6 @@ returns c = ends (c .before .loop .inv) (c .loop-test .left) (c .before .before 
 pub symbols-spec : {M : Type 1} → statement M
 symbols-spec =
     tie.close
-    (tie.spec
-    Inv-loop
-    μ-loop
-    cos-f32-table-requires
-    least-requires
-    loop-holds
-    sample-at-requires
-    interp-f32-pair-requires
-    derotate-requires
-    store-sample-requires
-    step-requires
-    add-k
-    loop-less
-    loop-again
-    same-length
-    returns)
+    (tie.spec Inv-loop μ-loop (λ c κs. search needs) (λ c κs. search needs) loop-holds (λ c κs. search needs)
+    (λ c κs. search needs) (λ c κs. search needs) (λ c κs. search needs) (λ c κs. search needs) add-k loop-less
+    loop-again same-length returns)

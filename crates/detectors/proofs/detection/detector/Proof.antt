@@ -5,18 +5,6 @@ use borrow.Author.Needs.{needs}
 use Rattle.detectors.proofs.detection.detector.Statement.{statement}
 use Rattle.detectors.proofs.detection.detector.Tie as tie
 
-enum-told : tie.Need-enum-told
-enum-told c = search needs
-
-enum-told-2 : tie.Need-enum-told-2
-enum-told-2 c = search needs
-
-detector4-requires : tie.Need-detector4-requires
-detector4-requires c κs = search needs
-
-enum-told-3 : tie.Need-enum-told-3
-enum-told-3 c = search needs
-
 returns : tie.Need-returns
 unfolding detected
 returns c = let a = c .before .before .before .args in λ j. detected (sym (c .before .enum-told .given .1) j) (a .y) (a .d)
@@ -32,11 +20,5 @@ returns-3 c = let a = c .before .before .before .before .before .before .args in
 pub detector-spec : {M : Type 1} → statement M
 detector-spec =
     tie.close
-    (tie.spec
-    enum-told
-    enum-told-2
-    detector4-requires
-    enum-told-3
-    returns
-    returns-2
+    (tie.spec (λ c. search needs) (λ c. search needs) (λ c κs. search needs) (λ c. search needs) returns returns-2
     returns-3)

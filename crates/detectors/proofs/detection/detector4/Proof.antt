@@ -6,12 +6,6 @@ use borrow.Author.Needs.{needs}
 use Rattle.detectors.proofs.detection.detector4.Statement.{statement}
 use Rattle.detectors.proofs.detection.detector4.Tie as tie
 
-size-requires : tie.Need-size-requires
-size-requires c κs = search needs
-
-size-requires-2 : tie.Need-size-requires-2
-size-requires-2 c κs = search needs
-
 with-sign-requires : tie.Need-with-sign-requires
 unfolding ofBits
 with-sign-requires c κs = ap (lt zero₀) (sym (c .before .before .before .size .ensures)) ∙ c .before .before .if1 .taken
@@ -23,24 +17,11 @@ with-sign-requires-2 c κs = ap (lt zero₀) (sym (c .before .before .size2 .ens
 returns : tie.Need-returns
 returns c = λ j. sub binary32 (c .before .with-sign .ensures j) (c .with-sign2 .ensures j)
 
-sign-times-requires : tie.Need-sign-times-requires
-sign-times-requires c κs = search needs
-
-sign-times-requires-2 : tie.Need-sign-times-requires-2
-sign-times-requires-2 c κs = search needs
-
 returns-2 : tie.Need-returns-2
 returns-2 c = λ j. sub binary32 (c .before .sign-times .ensures j) (c .sign-times2 .ensures j)
 
 pub detector4-spec : {M : Type 1} → statement M
 detector4-spec =
     tie.close
-    (tie.spec
-    size-requires
-    size-requires-2
-    with-sign-requires
-    with-sign-requires-2
-    returns
-    sign-times-requires
-    sign-times-requires-2
-    returns-2)
+    (tie.spec (λ c κs. search needs) (λ c κs. search needs) with-sign-requires with-sign-requires-2 returns
+    (λ c κs. search needs) (λ c κs. search needs) returns-2)

@@ -19,12 +19,6 @@ told is m = cond is (Number m) Nothing
 abbrev own : Float → Metric
 own m = told (finite m) m
 
-measure-requires : tie.Need-measure-requires
-measure-requires c κs = search needs
-
-is-finite-f32-requires : tie.Need-is-finite-f32-requires
-is-finite-f32-requires c κs = search needs
-
 returns : tie.Need-returns
 unfolding metricOf
 returns c = (λ j. told ((sym (c .if1 .taken) ∙ c .before .is-finite-f32 .ensures) j) (c .before .before .measure .result)) ∙ ap own (c .before .before .measure .ensures)
@@ -34,4 +28,4 @@ unfolding metricOf
 returns-2 c = (λ j. told ((sym (c .if1 .left) ∙ c .before .is-finite-f32 .ensures) j) (c .before .before .measure .result)) ∙ ap own (c .before .before .measure .ensures)
 
 pub lock-metric-spec : {M : Type 1} → statement M
-lock-metric-spec = tie.close (tie.spec measure-requires is-finite-f32-requires returns returns-2)
+lock-metric-spec = tie.close (tie.spec (λ c κs. search needs) (λ c κs. search needs) returns returns-2)

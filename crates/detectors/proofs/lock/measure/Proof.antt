@@ -8,24 +8,6 @@ use Rattle.detectors.proofs.lock.measure2.Reads as measure2-reads
 use Rattle.detectors.proofs.lock.measure4.Reads as measure4-reads
 use Rattle.detectors.proofs.lock.measure8.Reads as measure8-reads
 
-enum-told : tie.Need-enum-told
-enum-told c = search needs
-
-measure2-requires : tie.Need-measure2-requires
-measure2-requires c κs = search needs
-
-enum-told-2 : tie.Need-enum-told-2
-enum-told-2 c = search needs
-
-measure4-requires : tie.Need-measure4-requires
-measure4-requires c κs = search needs
-
-enum-told-3 : tie.Need-enum-told-3
-enum-told-3 c = search needs
-
-measure8-requires : tie.Need-measure8-requires
-measure8-requires c κs = search needs
-
 returns : tie.Need-returns
 unfolding measured
 returns c = let a = c .before .before .before .args in c .measure2 .ensures ∙ (λ j. measured (sym (c .before .enum-told .given .1) j) (a .y) (a .d))
@@ -41,13 +23,5 @@ returns-3 c = let a = c .before .before .before .args in c .measure8 .ensures �
 pub measure-spec : {M : Type 1} → statement M
 measure-spec =
     tie.close
-    (tie.spec
-    enum-told
-    measure2-requires
-    enum-told-2
-    measure4-requires
-    enum-told-3
-    measure8-requires
-    returns
-    returns-2
-    returns-3)
+    (tie.spec (λ c. search needs) (λ c κs. search needs) (λ c. search needs) (λ c κs. search needs)
+    (λ c. search needs) (λ c κs. search needs) returns returns-2 returns-3)

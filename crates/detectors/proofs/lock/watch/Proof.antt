@@ -13,18 +13,6 @@ use Rattle.numbers.proofs.flush_denormal.Reads as flush-denormal-reads
 abbrev at : Lock → Float → Lock
 at k l = record { level = l; locked = lockAfter (k .locked) l }
 
-enum-known-m : tie.Need-enum-known-m
-enum-known-m c = search needs
-
-flush-denormal-requires : tie.Need-flush-denormal-requires
-flush-denormal-requires c κs = search needs
-
-hold-requires : tie.Need-hold-requires
-hold-requires c κs = search needs
-
-enum-told : tie.Need-enum-told
-enum-told c = search needs
-
 returns : tie.Need-returns
 unfolding watched smoothed ofBits round
 returns c = let a = c .before .before .before .before .before .before .before .args in (λ j. record { level = c .before .flush-denormal .result; locked = c .hold .ensures j }) ∙ (λ j. at (a .k) (c .before .flush-denormal .ensures j)) ∙ (λ j. watched (a .k) (sym (c .before .before .before .before .before .m .given .1) j))
@@ -36,4 +24,5 @@ returns-2 c = let a = c .before .before .args in λ j. watched (a .k) (sym (c .e
 pub watch-spec : {M : Type 1} → statement M
 watch-spec =
     tie.close
-    (tie.spec enum-known-m flush-denormal-requires hold-requires enum-told returns returns-2)
+    (tie.spec (λ c. search needs) (λ c κs. search needs) (λ c κs. search needs) (λ c. search needs) returns
+    returns-2)

@@ -6,8 +6,5 @@ use Rattle.library_replay.proofs.slot.slot_of.Tie as tie
 returns : tie.Need-returns
 returns c = c .before .before .before .pre (c .before .if1 .taken)
 
-returns-2 : tie.Need-returns-2
-returns-2 c = search needs
-
 pub slot-of-spec : {M : Type 1} → statement M
-slot-of-spec = tie.close (tie.spec returns returns-2)
+slot-of-spec = tie.close (tie.spec returns (λ c. search needs))

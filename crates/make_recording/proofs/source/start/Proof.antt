@@ -7,15 +7,9 @@ use borrow.Author.Needs.{needs}
 use Rattle.make_recording.proofs.source.start.Statement.{statement}
 use Rattle.make_recording.proofs.source.start.Tie as tie
 
-step-requires : tie.Need-step-requires
-step-requires c κs = search needs
-
-point-requires : tie.Need-point-requires
-point-requires c κs = search needs
-
 returns : tie.Need-returns
 unfolding ofBits
 returns c = let e = c .before .step .ensures in λ j. record { state = e j; from = silence; to = (c .point .ensures ∙ ap pointOf e) j; phase = 357913941 }
 
 pub start-spec : {M : Type 1} → statement M
-start-spec = tie.close (tie.spec step-requires point-requires returns)
+start-spec = tie.close (tie.spec (λ c κs. search needs) (λ c κs. search needs) returns)

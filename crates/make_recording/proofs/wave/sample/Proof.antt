@@ -7,33 +7,6 @@ use borrow.Author.Needs.{needs}
 use Rattle.make_recording.proofs.wave.sample.Statement.{statement}
 use Rattle.make_recording.proofs.wave.sample.Tie as tie
 
-mul-interp-f32-pair : tie.Need-mul-interp-f32-pair
-mul-interp-f32-pair c = search needs
-
-add-interp-f32-pair : tie.Need-add-interp-f32-pair
-add-interp-f32-pair c = search needs
-
-interp-f32-pair-requires : tie.Need-interp-f32-pair-requires
-interp-f32-pair-requires c κs = search needs
-
-on-the-way-requires : tie.Need-on-the-way-requires
-on-the-way-requires c κs = search needs
-
-on-the-way-requires-2 : tie.Need-on-the-way-requires-2
-on-the-way-requires-2 c κs = search needs
-
-mul-wrapping-add-u32 : tie.Need-mul-wrapping-add-u32
-mul-wrapping-add-u32 c = search needs
-
-wrapping-add-u32-requires : tie.Need-wrapping-add-u32-requires
-wrapping-add-u32-requires c κs = search needs
-
-interp-f32-pair-requires-2 : tie.Need-interp-f32-pair-requires-2
-interp-f32-pair-requires-2 c κs = search needs
-
-turned-by-requires : tie.Need-turned-by-requires
-turned-by-requires c κs = search needs
-
 returns : tie.Need-returns
 returns c =
     let a = c .before .before .before .before .before .before .args in
@@ -46,14 +19,6 @@ returns c =
 pub sample-spec : {M : Type 1} → statement M
 sample-spec =
     tie.close
-    (tie.spec
-    mul-interp-f32-pair
-    add-interp-f32-pair
-    interp-f32-pair-requires
-    on-the-way-requires
-    on-the-way-requires-2
-    mul-wrapping-add-u32
-    wrapping-add-u32-requires
-    interp-f32-pair-requires-2
-    turned-by-requires
-    returns)
+    (tie.spec (λ c. search needs) (λ c. search needs) (λ c κs. search needs) (λ c κs. search needs)
+    (λ c κs. search needs) (λ c. search needs) (λ c κs. search needs) (λ c κs. search needs)
+    (λ c κs. search needs) returns)

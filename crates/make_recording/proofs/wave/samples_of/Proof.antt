@@ -5,18 +5,6 @@ use borrow.Author.Needs.{needs}
 use Rattle.make_recording.proofs.wave.samples_of.Statement.{statement}
 use Rattle.make_recording.proofs.wave.samples_of.Tie as tie
 
-sample-requires : tie.Need-sample-requires
-sample-requires c κs = search needs
-
-sample-requires-2 : tie.Need-sample-requires-2
-sample-requires-2 c κs = search needs
-
-sample-requires-3 : tie.Need-sample-requires-3
-sample-requires-3 c κs = search needs
-
-sample-requires-4 : tie.Need-sample-requires-4
-sample-requires-4 c κs = search needs
-
 returns : tie.Need-returns
 unfolding parts
 returns c = λ j. parts (c .before .before .before .sample .ensures j ∷ c .before .before .sample2 .ensures j ∷ c .before .sample3 .ensures j ∷ c .sample4 .ensures j ∷ [])
@@ -24,4 +12,4 @@ returns c = λ j. parts (c .before .before .before .sample .ensures j ∷ c .bef
 pub samples-of-spec : {M : Type 1} → statement M
 samples-of-spec =
     tie.close
-    (tie.spec sample-requires sample-requires-2 sample-requires-3 sample-requires-4 returns)
+    (tie.spec (λ c κs. search needs) (λ c κs. search needs) (λ c κs. search needs) (λ c κs. search needs) returns)

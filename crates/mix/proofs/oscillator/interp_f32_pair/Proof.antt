@@ -12,53 +12,8 @@ use Rattle.mix.proofs.Laws.Fraction.{fraction-is}
 use Rattle.mix.proofs.oscillator.interp_f32_pair.Statement.{statement}
 use Rattle.mix.proofs.oscillator.interp_f32_pair.Tie as tie
 
-cast-idx : tie.Need-cast-idx
-cast-idx c = search needs
-
-wrapping-sub-u32-requires : tie.Need-wrapping-sub-u32-requires
-wrapping-sub-u32-requires c κs = search needs
-
-cast-sidx : tie.Need-cast-sidx
-cast-sidx c = search needs
-
-mul-f : tie.Need-mul-f
-mul-f c = search needs
-
-add-f : tie.Need-add-f
-add-f c = search needs
-
 float-from-bits-f : tie.Need-float-from-bits-f
 float-from-bits-f c = not-above binary32 _ (omega arith)
-
-mul-a : tie.Need-mul-a
-mul-a c = search needs
-
-element-copy-out-a : tie.Need-element-copy-out-a
-element-copy-out-a c = search needs
-
-add-b : tie.Need-add-b
-add-b c = search needs
-
-mul-b : tie.Need-mul-b
-mul-b c = search needs
-
-element-copy-out-b : tie.Need-element-copy-out-b
-element-copy-out-b c = search needs
-
-mul-sa : tie.Need-mul-sa
-mul-sa c = search needs
-
-element-copy-out-sa : tie.Need-element-copy-out-sa
-element-copy-out-sa c = search needs
-
-add-sb : tie.Need-add-sb
-add-sb c = search needs
-
-mul-sb : tie.Need-mul-sb
-mul-sb c = search needs
-
-element-copy-out-sb : tie.Need-element-copy-out-sb
-element-copy-out-sb c = search needs
 
 returns : tie.Need-returns
 returns c =
@@ -76,21 +31,7 @@ returns c =
 pub interp-f32-pair-spec : {M : Type 1} → statement M
 interp-f32-pair-spec =
     tie.close
-    (tie.spec
-    cast-idx
-    wrapping-sub-u32-requires
-    cast-sidx
-    mul-f
-    add-f
-    float-from-bits-f
-    mul-a
-    element-copy-out-a
-    add-b
-    mul-b
-    element-copy-out-b
-    mul-sa
-    element-copy-out-sa
-    add-sb
-    mul-sb
-    element-copy-out-sb
-    returns)
+    (tie.spec (λ c. search needs) (λ c κs. search needs) (λ c. search needs) (λ c. search needs)
+    (λ c. search needs) float-from-bits-f (λ c. search needs) (λ c. search needs) (λ c. search needs)
+    (λ c. search needs) (λ c. search needs) (λ c. search needs) (λ c. search needs) (λ c. search needs)
+    (λ c. search needs) (λ c. search needs) returns)

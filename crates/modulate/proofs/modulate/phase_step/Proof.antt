@@ -13,13 +13,9 @@ returns : tie.Need-returns
 unfolding ofBits
 returns c = c .phase-step-fast .ensures
 
-phase-step-wide-requires : tie.Need-phase-step-wide-requires
-phase-step-wide-requires c κs = search needs
-
 returns-2 : tie.Need-returns-2
 unfolding ofBits
 returns-2 c = c .phase-step-wide .ensures
 
 pub phase-step-spec : {M : Type 1} → statement M
-phase-step-spec =
-    tie.close (tie.spec phase-step-fast-requires returns phase-step-wide-requires returns-2)
+phase-step-spec = tie.close (tie.spec phase-step-fast-requires returns (λ c κs. search needs) returns-2)

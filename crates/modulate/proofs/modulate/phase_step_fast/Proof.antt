@@ -10,15 +10,6 @@ float-to-bits-low : tie.Need-float-to-bits-low
 unfolding ofBits
 float-to-bits-low c = sum-number (c .args .v) (c .pre .0) (c .pre .1)
 
-cast-low : tie.Need-cast-low
-cast-low c = search needs
-
-up-requires : tie.Need-up-requires
-up-requires c κs = search needs
-
-wrapping-sub-u32-requires : tie.Need-wrapping-sub-u32-requires
-wrapping-sub-u32-requires c κs = search needs
-
 returns : tie.Need-returns
 unfolding ofBits
 returns c =
@@ -27,4 +18,5 @@ returns c =
 
 pub phase-step-fast-spec : {M : Type 1} → statement M
 phase-step-fast-spec =
-    tie.close (tie.spec float-to-bits-low cast-low up-requires wrapping-sub-u32-requires returns)
+    tie.close
+    (tie.spec float-to-bits-low (λ c. search needs) (λ c κs. search needs) (λ c κs. search needs) returns)

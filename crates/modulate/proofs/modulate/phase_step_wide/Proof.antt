@@ -33,18 +33,9 @@ returns : tie.Need-returns
 unfolding ofBits
 returns c = stepped-top (c .before .args .v) (yes (c .if1 .taken))
 
-floor-requires : tie.Need-floor-requires
-floor-requires c κs = search needs
-
 truncating-f64-to-u64-requires : tie.Need-truncating-f64-to-u64-requires
 unfolding ofBits
 truncating-f64-to-u64-requires c κs = let i = c .before .before in minus-asks (v-of i) (c .before .floor .result) (c .before .floor .ensures) (held-in i) (below-in i) (above-in i) (yes (c .if3 .taken))
-
-cast-wrapping-sub-u32 : tie.Need-cast-wrapping-sub-u32
-cast-wrapping-sub-u32 c = search needs
-
-wrapping-sub-u32-requires : tie.Need-wrapping-sub-u32-requires
-wrapping-sub-u32-requires c κs = search needs
 
 returns-2 : tie.Need-returns-2
 unfolding ofBits
@@ -57,9 +48,6 @@ returns-2 c =
 truncating-f64-to-u64-requires-2 : tie.Need-truncating-f64-to-u64-requires-2
 unfolding ofBits
 truncating-f64-to-u64-requires-2 c κs = let i = c .before .before in plus-asks (v-of i) (c .before .floor .result) (c .before .floor .ensures) (held-in i) (below-in i) (above-in i) (no (c .if3 .left))
-
-cast-result : tie.Need-cast-result
-cast-result c = search needs
 
 returns-3 : tie.Need-returns-3
 unfolding ofBits
@@ -75,14 +63,5 @@ returns-4 c = step-bottom (c .before .before .args .v) (no (c .if2 .left))
 pub phase-step-wide-spec : {M : Type 1} → statement M
 phase-step-wide-spec =
     tie.close
-    (tie.spec
-    returns
-    floor-requires
-    truncating-f64-to-u64-requires
-    cast-wrapping-sub-u32
-    wrapping-sub-u32-requires
-    returns-2
-    truncating-f64-to-u64-requires-2
-    cast-result
-    returns-3
-    returns-4)
+    (tie.spec returns (λ c κs. search needs) truncating-f64-to-u64-requires (λ c. search needs)
+    (λ c κs. search needs) returns-2 truncating-f64-to-u64-requires-2 (λ c. search needs) returns-3 returns-4)

@@ -6,12 +6,6 @@ use borrow.Author.Tests.{lt-ltb, le-ltb}
 use Rattle.modulate.proofs.single.moved.Statement.{statement}
 use Rattle.modulate.proofs.single.moved.Tie as tie
 
-add-result : tie.Need-add-result
-add-result c = search needs
-
-sub-result : tie.Need-sub-result
-sub-result c = search needs
-
 returns : tie.Need-returns
 returns c = rw (lt-ltb (c .before .args .bits) (2 ^ 31) (omega arith))
 
@@ -19,4 +13,4 @@ returns-2 : tie.Need-returns-2
 returns-2 c = rw (le-ltb (c .before .args .bits) (2 ^ 31) (omega arith))
 
 pub moved-spec : {M : Type 1} → statement M
-moved-spec = tie.close (tie.spec add-result sub-result returns returns-2)
+moved-spec = tie.close (tie.spec (λ c. search needs) (λ c. search needs) returns returns-2)

@@ -33,38 +33,11 @@ code-quotient-lt c =
 float-to-bits-bits : tie.Need-float-to-bits-bits
 float-to-bits-bits c = small-number (c .args .v) (c .pre .0) (c .pre .1)
 
-add-m : tie.Need-add-m
-add-m c = search needs
-
-cast-m : tie.Need-cast-m
-cast-m c = search needs
-
-mul-m : tie.Need-mul-m
-mul-m c = search needs
-
-moved-requires : tie.Need-moved-requires
-moved-requires c κs = search needs
-
 sub-at-most-63 : tie.Need-sub-at-most-63
 sub-at-most-63 c =
     let a = c .before in
     let l = field-le (a .args .v) (held a) (a .pre .0) (a .pre .1) in
     omega arith
-
-at-most-63-requires : tie.Need-at-most-63-requires
-at-most-63-requires c κs = search needs
-
-cast-q1 : tie.Need-cast-q1
-cast-q1 c = search needs
-
-shr-q1 : tie.Need-shr-q1
-shr-q1 c = search needs
-
-cast-q1-2 : tie.Need-cast-q1-2
-cast-q1-2 c = search needs
-
-shr-q1-2 : tie.Need-shr-q1-2
-shr-q1-2 c = search needs
 
 sub-q1 : tie.Need-sub-q1
 sub-q1 c =
@@ -75,9 +48,6 @@ sub-q1 c =
 add-q1 : tie.Need-add-q1
 add-q1 c = let l = code-quotient-lt c in record { fits = omega arith }
 
-cast-result : tie.Need-cast-result
-cast-result c = search needs
-
 returns : tie.Need-returns
 returns c =
     let a = c .before .before in
@@ -86,19 +56,6 @@ returns c =
 pub phase-step-bits-spec : {M : Type 1} → statement M
 phase-step-bits-spec =
     tie.close
-    (tie.spec
-    float-to-bits-bits
-    add-m
-    cast-m
-    mul-m
-    moved-requires
-    sub-at-most-63
-    at-most-63-requires
-    cast-q1
-    shr-q1
-    cast-q1-2
-    shr-q1-2
-    sub-q1
-    add-q1
-    cast-result
-    returns)
+    (tie.spec float-to-bits-bits (λ c. search needs) (λ c. search needs) (λ c. search needs)
+    (λ c κs. search needs) sub-at-most-63 (λ c κs. search needs) (λ c. search needs) (λ c. search needs)
+    (λ c. search needs) (λ c. search needs) sub-q1 add-q1 (λ c. search needs) returns)

@@ -17,15 +17,6 @@ phase-step-bits-requires : tie.Need-phase-step-bits-requires
 unfolding ofBits neg
 phase-step-bits-requires c κs = (yes (c .if2 .taken), yes (c .before .if1 .taken))
 
-returns : tie.Need-returns
-returns c = search needs
-
-widen-requires : tie.Need-widen-requires
-widen-requires c κs = search needs
-
-phase-step-requires : tie.Need-phase-step-requires
-phase-step-requires c κs = search needs
-
 returns-2 : tie.Need-returns-2
 unfolding ofBits
 returns-2 c =
@@ -34,4 +25,5 @@ returns-2 c =
 
 pub phase-step-f32-spec : {M : Type 1} → statement M
 phase-step-f32-spec =
-    tie.close (tie.spec phase-step-bits-requires returns widen-requires phase-step-requires returns-2)
+    tie.close
+    (tie.spec phase-step-bits-requires (λ c. search needs) (λ c κs. search needs) (λ c κs. search needs) returns-2)

@@ -5,24 +5,6 @@ use Rattle.numbers.proofs.Laws.Places.{narrow-none, narrow-low, narrow-
 use Rattle.numbers.proofs.narrowing.narrow_bits.Statement.{statement}
 use Rattle.numbers.proofs.narrowing.narrow_bits.Tie as tie
 
-add-digits : tie.Need-add-digits
-add-digits c = search needs
-
-sub-shifted : tie.Need-sub-shifted
-sub-shifted c = search needs
-
-add-shifted : tie.Need-add-shifted
-add-shifted c = search needs
-
-shifted-requires : tie.Need-shifted-requires
-shifted-requires c κs = search needs
-
-mul-result : tie.Need-mul-result
-mul-result c = search needs
-
-shifted-requires-2 : tie.Need-shifted-requires-2
-shifted-requires-2 c κs = search needs
-
 add-result : tie.Need-add-result
 add-result c =
     let a = c .before .before .before .before .args in
@@ -46,4 +28,7 @@ returns-4 : tie.Need-returns-4
 returns-4 c = (narrow-over (c .before .before .before .args .size) (omega arith) (omega arith), omega arith)
 
 pub narrow-bits-spec : {M : Type 1} → statement M
-narrow-bits-spec = tie.close (tie.spec add-digits sub-shifted add-shifted shifted-requires mul-result shifted-requires-2 add-result returns returns-2 returns-3 returns-4)
+narrow-bits-spec =
+    tie.close
+    (tie.spec (λ c. search needs) (λ c. search needs) (λ c. search needs) (λ c κs. search needs)
+    (λ c. search needs) (λ c κs. search needs) add-result returns returns-2 returns-3 returns-4)

@@ -14,11 +14,8 @@ held c = yes (c .good .1 .0 .1)
 returns : tie.Need-returns
 returns c = let s = c .before in floor-equal (s .args .x) (held s) (s .pre .0) (s .pre .1 .0) _ (s .pre .1 .1) (yes (c .if1 .taken))
 
-above-requires : tie.Need-above-requires
-above-requires c κs = search needs
-
 returns-2 : tie.Need-returns-2
 returns-2 c = let s = c .before .before in floor-off (s .args .x) (held s) (s .pre .0) (s .pre .1 .0) _ _ (s .pre .1 .1) (no (c .before .if1 .left)) (c .above .ensures)
 
 pub mended-spec : {M : Type 1} → statement M
-mended-spec = tie.close (tie.spec returns above-requires returns-2)
+mended-spec = tie.close (tie.spec returns (λ c κs. search needs) returns-2)

@@ -16,12 +16,6 @@ float-to-bits-result : tie.Need-float-to-bits-result
 unfolding ofBits ofInt
 float-to-bits-result c = counted-number (c .before .before .args .size) (c .before .if1 .taken)
 
-mul-result : tie.Need-mul-result
-mul-result c = search needs
-
-add-result : tie.Need-add-result
-add-result c = search needs
-
 returns : tie.Need-returns
 unfolding ofBits ofInt
 returns c = widen-low (c .before .before .args .size) (c .before .if1 .taken)
@@ -33,4 +27,7 @@ returns-3 : tie.Need-returns-3
 returns-3 c = (widen-infinite (c .before .before .args .size) (omega arith), omega arith)
 
 pub widen-bits-spec : {M : Type 1} → statement M
-widen-bits-spec = tie.close (tie.spec int-to-float-result float-to-bits-result mul-result add-result returns returns-2 returns-3)
+widen-bits-spec =
+    tie.close
+    (tie.spec int-to-float-result float-to-bits-result (λ c. search needs) (λ c. search needs) returns returns-2
+    returns-3)

@@ -13,8 +13,5 @@ returns : tie.Need-returns
 unfolding toBits
 returns c = sym (ap (toBits binary32) (is-nan (c .before .args .x) (c .if1 .taken)))
 
-returns-2 : tie.Need-returns-2
-returns-2 c = search needs
-
 pub f32-bits-spec : {M : Type 1} → statement M
-f32-bits-spec = tie.close (tie.spec float-to-bits-result returns returns-2)
+f32-bits-spec = tie.close (tie.spec float-to-bits-result returns (λ c. search needs))

@@ -12,8 +12,5 @@ returns : tie.Need-returns
 unfolding div ofBits
 returns c = above-nan binary32 (c .before .args .bits) (c .if1 .taken)
 
-returns-2 : tie.Need-returns-2
-returns-2 c = search needs
-
 pub f32-of-spec : {M : Type 1} → statement M
-f32-of-spec = tie.close (tie.spec float-from-bits-result returns returns-2)
+f32-of-spec = tie.close (tie.spec float-from-bits-result returns (λ c. search needs))

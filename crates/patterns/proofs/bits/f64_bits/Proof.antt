@@ -13,8 +13,5 @@ returns : tie.Need-returns
 unfolding toBits
 returns c = sym (ap (toBits binary64) (is-nan (c .before .args .x) (c .if1 .taken)))
 
-returns-2 : tie.Need-returns-2
-returns-2 c = search needs
-
 pub f64-bits-spec : {M : Type 1} → statement M
-f64-bits-spec = tie.close (tie.spec float-to-bits-result returns returns-2)
+f64-bits-spec = tie.close (tie.spec float-to-bits-result returns (λ c. search needs))

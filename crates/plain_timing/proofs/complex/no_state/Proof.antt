@@ -5,12 +5,9 @@ use borrow.Author.Needs.{needs}
 use Rattle.plain_timing.proofs.complex.no_state.Statement.{statement}
 use Rattle.plain_timing.proofs.complex.no_state.Tie as tie
 
-no-params-requires : tie.Need-no-params-requires
-no-params-requires c κs = search needs
-
 returns : tie.Need-returns
 unfolding ofBits
 returns c = λ j. record { params = c .no-params .ensures j; hist = none .hist; track = none .track }
 
 pub no-state-spec : {M : Type 1} → statement M
-no-state-spec = tie.close (tie.spec no-params-requires returns)
+no-state-spec = tie.close (tie.spec (λ c κs. search needs) returns)

@@ -6,11 +6,8 @@ use borrow.Author.Needs.{needs}
 use Rattle.plain_timing.proofs.params.params_of.Statement.{statement}
 use Rattle.plain_timing.proofs.params.params_of.Tie as tie
 
-detector-requires : tie.Need-detector-requires
-detector-requires c κs = search needs
-
 returns : tie.Need-returns
 returns c = ap (withDetector (paramsOf (c .before .args .p))) (c .detector .ensures)
 
 pub params-of-spec : {M : Type 1} → statement M
-params-of-spec = tie.close (tie.spec detector-requires returns)
+params-of-spec = tie.close (tie.spec (λ c κs. search needs) returns)

@@ -6,11 +6,8 @@ use borrow.Author.Needs.{needs}
 use Rattle.plain_timing.proofs.params.params_record.Statement.{statement}
 use Rattle.plain_timing.proofs.params.params_record.Tie as tie
 
-detector-code-requires : tie.Need-detector-code-requires
-detector-code-requires c κs = search needs
-
 returns : tie.Need-returns
 returns c = ap (withCode (paramsRecord (c .before .args .p))) (c .detector-code .ensures)
 
 pub params-record-spec : {M : Type 1} → statement M
-params-record-spec = tie.close (tie.spec detector-code-requires returns)
+params-record-spec = tie.close (tie.spec (λ c κs. search needs) returns)

@@ -6,11 +6,8 @@ use borrow.Author.Needs.{needs}
 use Rattle.plain_timing.proofs.real.state_of.Statement.{statement}
 use Rattle.plain_timing.proofs.real.state_of.Tie as tie
 
-params-of-requires : tie.Need-params-of-requires
-params-of-requires c κs = search needs
-
 returns : tie.Need-returns
 returns c = ap (withParams (syncOf (c .before .before .before .before .args .x))) (c .params-of .ensures)
 
 pub state-of-spec : {M : Type 1} → statement M
-state-of-spec = tie.close (tie.spec params-of-requires returns)
+state-of-spec = tie.close (tie.spec (λ c κs. search needs) returns)

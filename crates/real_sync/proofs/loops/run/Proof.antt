@@ -17,26 +17,17 @@ use Rattle.real_sync.proofs.loops.run.Tie as tie
 strobes-requires : tie.Need-strobes-requires
 strobes-requires c κs = running-more _ _ _ _ (c .before .before .before .before .before .before .pre)
 
-lacks-requires : tie.Need-lacks-requires
-lacks-requires c κs = search needs
-
 consumed-requires : tie.Need-consumed-requires
 consumed-requires c κs =
     let s = c .before .before .before .before .before .before .before .before .before .before .before in
     let xs = s .args .input .now in
     end-asks real (sync (s .args .s)) xs (length (s .args .output .now)) (length xs) refl (c .lacks .ensures) (c .before .before .before .before .strobes .ensures .0) (s .pre)
 
-hist-at-requires : tie.Need-hist-at-requires
-hist-at-requires c κs = search needs
-
 sub-i : tie.Need-sub-i
 sub-i c =
     let s = c .before .before .before .before .before .before .before .before .before .before .before .before .before .before in
     let xs = s .args .input .now in
     end-back real (sync (s .args .s)) xs (length (s .args .output .now)) (length xs) refl (c .before .before .before .lacks .ensures) (c .before .before .before .before .before .before .before .strobes .ensures .0) (s .pre) (c .before .before .consumed .ensures)
-
-same-length : tie.Need-same-length
-same-length c = search needs
 
 returns : tie.Need-returns
 unfolding calledReal trackBack
@@ -50,11 +41,5 @@ returns c =
 pub run-spec : {M : Type 1} → statement M
 run-spec =
     tie.close
-    (tie.spec
-    strobes-requires
-    lacks-requires
-    consumed-requires
-    hist-at-requires
-    sub-i
-    same-length
-    returns)
+    (tie.spec strobes-requires (λ c κs. search needs) consumed-requires (λ c κs. search needs) sub-i
+    (λ c. search needs) returns)

@@ -20,12 +20,6 @@ loop-holds c = begins (omega arith) (omega arith) (omega arith) (omega arith) (c
 take-mid-requires : tie.Need-take-mid-requires Inv-loop μ-loop
 take-mid-requires c κs = c .before .loop .inv .running
 
-lacks-requires : tie.Need-lacks-requires Inv-loop μ-loop
-lacks-requires c κs = search needs
-
-can-strobe-requires : tie.Need-can-strobe-requires Inv-loop μ-loop
-can-strobe-requires c κs = search needs
-
 value-at-requires : tie.Need-value-at-requires Inv-loop μ-loop
 value-at-requires c κs = turn-window (c .before .before .before .before .before .loop .inv) (c .before .before .before .take-mid .ensures) (c .before .before .lacks .ensures) (c .before .can-strobe .ensures) (c .if1 .left)
 
@@ -68,21 +62,6 @@ returns-2 c = ends-stopped (c .before .before .before .before .before .loop .inv
 pub strobes-spec : {M : Type 1} → statement M
 strobes-spec =
     tie.close
-    (tie.spec
-    Inv-loop
-    μ-loop
-    loop-holds
-    take-mid-requires
-    lacks-requires
-    can-strobe-requires
-    value-at-requires
-    strobe-requires
-    mul-output
-    slice-write-output
-    add-produced
-    loop-less
-    loop-again
-    same-length
-    returns
-    same-length-2
-    returns-2)
+    (tie.spec Inv-loop μ-loop loop-holds take-mid-requires (λ c κs. search needs) (λ c κs. search needs)
+    value-at-requires strobe-requires mul-output slice-write-output add-produced loop-less loop-again same-length
+    returns same-length-2 returns-2)

@@ -6,17 +6,8 @@ use borrow.Author.Needs.{needs}
 use Rattle.real_sync.proofs.loops.value_at.Statement.{statement}
 use Rattle.real_sync.proofs.loops.value_at.Tie as tie
 
-window-requires : tie.Need-window-requires
-window-requires c κs = search needs
-
-narrow-requires : tie.Need-narrow-requires
-narrow-requires c κs = search needs
-
-interp-requires : tie.Need-interp-requires
-interp-requires c κs = search needs
-
 returns : tie.Need-returns
 returns c = c .interp .ensures ∙ value-of-window real _ (c .before .before .before .before .args .i) (c .before .before .before .before .args .mu) _ _ _ (c .before .before .window .ensures) (c .before .narrow .ensures)
 
 pub value-at-spec : {M : Type 1} → statement M
-value-at-spec = tie.close (tie.spec window-requires narrow-requires interp-requires returns)
+value-at-spec = tie.close (tie.spec (λ c κs. search needs) (λ c κs. search needs) (λ c κs. search needs) returns)

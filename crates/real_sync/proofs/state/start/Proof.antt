@@ -10,9 +10,6 @@ use borrow.Author.Needs.{needs}
 use Rattle.real_sync.proofs.state.start.Statement.{statement}
 use Rattle.real_sync.proofs.state.start.Tie as tie
 
-fresh-clock-requires : tie.Need-fresh-clock-requires
-fresh-clock-requires c κs = search needs
-
 returns : tie.Need-returns
 unfolding ofBits
 returns c =
@@ -22,4 +19,4 @@ returns c =
     (e, subst Given (sym e) (fresh-given real (a .p) (c .before .pre)))
 
 pub start-spec : {M : Type 1} → statement M
-start-spec = tie.close (tie.spec fresh-clock-requires returns)
+start-spec = tie.close (tie.spec (λ c κs. search needs) returns)

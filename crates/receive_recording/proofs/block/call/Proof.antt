@@ -9,24 +9,6 @@ use borrow.Author.Needs.{needs}
 use Rattle.receive_recording.proofs.block.call.Statement.{statement}
 use Rattle.receive_recording.proofs.block.call.Tie as tie
 
-slice-aggregate-run : tie.Need-slice-aggregate-run
-slice-aggregate-run c = search needs
-
-slice-aggregate-run-2 : tie.Need-slice-aggregate-run-2
-slice-aggregate-run-2 c = search needs
-
-run-requires : tie.Need-run-requires
-run-requires c κs = search needs
-
-counts-of-requires : tie.Need-counts-of-requires
-counts-of-requires c κs = search needs
-
-slice-aggregate-symbols : tie.Need-slice-aggregate-symbols
-slice-aggregate-symbols c = search needs
-
-symbols-requires : tie.Need-symbols-requires
-symbols-requires c κs = search needs
-
 returns : tie.Need-returns
 unfolding ofBits
 returns c =
@@ -38,11 +20,5 @@ returns c =
 pub call-spec : {M : Type 1} → statement M
 call-spec =
     tie.close
-    (tie.spec
-    slice-aggregate-run
-    slice-aggregate-run-2
-    run-requires
-    counts-of-requires
-    slice-aggregate-symbols
-    symbols-requires
-    returns)
+    (tie.spec (λ c. search needs) (λ c. search needs) (λ c κs. search needs) (λ c κs. search needs)
+    (λ c. search needs) (λ c κs. search needs) returns)

@@ -23,9 +23,6 @@ room c =
       fits = fits-output (a .r) (a .input .now) (a .strobes .now) (a .output .now) (s .pre .1) (c .recover .result) (c .recover .last .1 .1 .0) (c .recover .ensures .0);
     }
 
-recover-requires : tie.Need-recover-requires
-recover-requires c κs = search needs
-
 mul-n : tie.Need-mul-n
 mul-n c = let h = room (c .before .before .before) in record { fits = omega arith }
 
@@ -34,18 +31,6 @@ slice-reshare-prefix-carry c = let h = room (c .before .before .before) in omega
 
 slice-aggregate-carry : tie.Need-slice-aggregate-carry
 slice-aggregate-carry c = let h = room (c .before .before .before .before) in rw length-take (omega arith)
-
-carry-requires : tie.Need-carry-requires
-carry-requires c κs = search needs
-
-counted-requires : tie.Need-counted-requires
-counted-requires c κs = search needs
-
-same-length : tie.Need-same-length
-same-length c = search needs
-
-same-length-2 : tie.Need-same-length-2
-same-length-2 c = search needs
 
 returns : tie.Need-returns
 returns c =
@@ -58,13 +43,5 @@ returns c =
 pub accepted-spec : {M : Type 1} → statement M
 accepted-spec =
     tie.close
-    (tie.spec
-    recover-requires
-    mul-n
-    slice-reshare-prefix-carry
-    slice-aggregate-carry
-    carry-requires
-    counted-requires
-    same-length
-    same-length-2
-    returns)
+    (tie.spec (λ c κs. search needs) mul-n slice-reshare-prefix-carry slice-aggregate-carry (λ c κs. search needs)
+    (λ c κs. search needs) (λ c. search needs) (λ c. search needs) returns)

@@ -13,18 +13,6 @@ use Rattle.receiver.proofs.call.counted.Tie as tie
 abbrev picked : Bool → ℕ → ℕ
 picked above sum = cond above top sum
 
-sub-room : tie.Need-sub-room
-sub-room c = search needs
-
-cast-room : tie.Need-cast-room
-cast-room c = search needs
-
-cast-result : tie.Need-cast-result
-cast-result c = search needs
-
-add-result : tie.Need-add-result
-add-result c = search needs
-
 returns : tie.Need-returns
 unfolding countAfter
 returns c = let a = c .before .args in sym (ap (λ (b : Bool). picked b (a .count + a .symbols)) (lt-ltb top (a .count + a .symbols) (omega arith)))
@@ -34,4 +22,6 @@ unfolding countAfter
 returns-2 c = let a = c .before .args in sym (ap (λ (b : Bool). picked b (a .count + a .symbols)) (le-ltb top (a .count + a .symbols) (omega arith)))
 
 pub counted-spec : {M : Type 1} → statement M
-counted-spec = tie.close (tie.spec sub-room cast-room cast-result add-result returns returns-2)
+counted-spec =
+    tie.close
+    (tie.spec (λ c. search needs) (λ c. search needs) (λ c. search needs) (λ c. search needs) returns returns-2)

@@ -44,26 +44,11 @@ odd c =
 even : (c : tie.Else3) → let a = c .before .before .before .before .before .before .args in oddAny (a .input .now) (a .strobes .now) (a .output .now) ≡ false
 even c = let a = c .before .before .before .before .before .before .args in all-even (a .input .now) (a .strobes .now) (a .output .now) (c .before .before .if1 .left) (eqb-false (length (a .strobes .now) % 2) 1 (c .before .if2 .left)) (eqb-false (length (a .output .now) % 2) 1 (c .if3 .left))
 
-refused-requires : tie.Need-refused-requires
-refused-requires c κs = search needs
-
 returns : tie.Need-returns
 returns c = refuses (c .before .before .before .before .before) _ Odd (c .refused .ensures) (called-odd _ _ _ _ (odd (c .before)))
 
-refused-requires-2 : tie.Need-refused-requires-2
-refused-requires-2 c κs = search needs
-
 returns-2 : tie.Need-returns-2
 returns-2 c = refuses (c .before .before .before .before .before .before .before .before) _ Uneven (c .refused2 .ensures) (called-uneven _ _ _ _ (even (c .before .before)) (c .before .if4 .taken))
-
-accepted-requires : tie.Need-accepted-requires
-accepted-requires c κs = search needs
-
-same-length : tie.Need-same-length
-same-length c = search needs
-
-same-length-2 : tie.Need-same-length-2
-same-length-2 c = search needs
 
 returns-3 : tie.Need-returns-3
 returns-3 c =
@@ -71,4 +56,7 @@ returns-3 c =
     kept (t .before .before .before .before .before .before .before) (c .before .before .before .before .accepted .ensures ∙ sym (called-done _ _ _ _ (even (t .before)) (t .if4 .left)))
 
 pub run-spec : {M : Type 1} → statement M
-run-spec = tie.close (tie.spec refused-requires returns refused-requires-2 returns-2 accepted-requires same-length same-length-2 returns-3)
+run-spec =
+    tie.close
+    (tie.spec (λ c κs. search needs) returns (λ c κs. search needs) returns-2 (λ c κs. search needs)
+    (λ c. search needs) (λ c. search needs) returns-3)

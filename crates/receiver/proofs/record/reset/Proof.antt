@@ -5,12 +5,6 @@ use borrow.Author.Needs.{needs}
 use Rattle.receiver.proofs.record.reset.Statement.{statement}
 use Rattle.receiver.proofs.record.reset.Tie as tie
 
-reset-requires : tie.Need-reset-requires
-reset-requires c κs = search needs
-
-reset-requires-2 : tie.Need-reset-requires-2
-reset-requires-2 c κs = search needs
-
 returns : tie.Need-returns
 returns c =
     let t = c .before .reset .ensures in
@@ -18,4 +12,4 @@ returns c =
     (λ j. record { timing = stateOf (t .0 j); carrier = k .0 j; count = 0 }, record { timing = t .1; carrier = k .1; count-in = lit< tt })
 
 pub reset-spec : {M : Type 1} → statement M
-reset-spec = tie.close (tie.spec reset-requires reset-requires-2 returns)
+reset-spec = tie.close (tie.spec (λ c κs. search needs) (λ c κs. search needs) returns)

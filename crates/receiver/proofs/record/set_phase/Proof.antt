@@ -3,9 +3,6 @@ use borrow.Author.Needs.{needs}
 use Rattle.receiver.proofs.record.set_phase.Statement.{statement}
 use Rattle.receiver.proofs.record.set_phase.Tie as tie
 
-set-phase-requires : tie.Need-set-phase-requires
-set-phase-requires c κs = search needs
-
 returns : tie.Need-returns
 returns c =
     let s = c .before .before .before in
@@ -13,4 +10,4 @@ returns c =
     (λ j. record { timing = r .timing; carrier = c .set-phase .ensures .0 j; count = r .count }, record { timing = s .pre .timing; carrier = c .set-phase .ensures .1; count-in = s .pre .count-in })
 
 pub set-phase-spec : {M : Type 1} → statement M
-set-phase-spec = tie.close (tie.spec set-phase-requires returns)
+set-phase-spec = tie.close (tie.spec (λ c κs. search needs) returns)

@@ -12,24 +12,6 @@ use borrow.Author.Needs.{needs}
 use Rattle.receiver.proofs.record.set_up.Statement.{statement}
 use Rattle.receiver.proofs.record.set_up.Tie as tie
 
-set-up-requires : tie.Need-set-up-requires
-set-up-requires c κs = search needs
-
-enum-known-answer : tie.Need-enum-known-answer
-enum-known-answer c = search needs
-
-set-up-requires-2 : tie.Need-set-up-requires-2
-set-up-requires-2 c κs = search needs
-
-enum-known-answer-2 : tie.Need-enum-known-answer-2
-enum-known-answer-2 c = search needs
-
-enum-known-answer-3 : tie.Need-enum-known-answer-3
-enum-known-answer-3 c = search needs
-
-enum-known-answer-4 : tie.Need-enum-known-answer-4
-enum-known-answer-4 c = search needs
-
 -- what the definition opens, with the carrier's answer put in
 answers : (c : tie.After-set-up2) → let a = c .before .before .before .before .before .args in opened (a .constellation) (a .t) (a .c) ≡ joined (tunedBy (a .t)) (c .set-up2 .result)
 answers c = let a = c .before .before .before .before .before .args in opened-joined (a .constellation) (a .t) (a .c) ∙ ap (joined (tunedBy (a .t))) (sym (c .set-up2 .ensures .0))
@@ -64,13 +46,5 @@ returns-3 c =
 pub set-up-spec : {M : Type 1} → statement M
 set-up-spec =
     tie.close
-    (tie.spec
-    set-up-requires
-    enum-known-answer
-    set-up-requires-2
-    enum-known-answer-2
-    enum-known-answer-3
-    enum-known-answer-4
-    returns
-    returns-2
-    returns-3)
+    (tie.spec (λ c κs. search needs) (λ c. search needs) (λ c κs. search needs) (λ c. search needs)
+    (λ c. search needs) (λ c. search needs) returns returns-2 returns-3)

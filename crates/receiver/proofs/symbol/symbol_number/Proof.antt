@@ -6,24 +6,6 @@ use Rattle.receiver.specs.Symbol.{symbolOf}
 use Rattle.receiver.proofs.symbol.symbol_number.Statement.{statement}
 use Rattle.receiver.proofs.symbol.symbol_number.Tie as tie
 
-enum-told : tie.Need-enum-told
-enum-told c = search needs
-
-bpsk-number-requires : tie.Need-bpsk-number-requires
-bpsk-number-requires c κs = search needs
-
-enum-told-2 : tie.Need-enum-told-2
-enum-told-2 c = search needs
-
-octant-requires : tie.Need-octant-requires
-octant-requires c κs = search needs
-
-enum-told-3 : tie.Need-enum-told-3
-enum-told-3 c = search needs
-
-octant-requires-2 : tie.Need-octant-requires-2
-octant-requires-2 c κs = search needs
-
 returns : tie.Need-returns
 unfolding symbolOf
 returns c = c .bpsk-number .ensures ∙ (λ j. symbolOf (sym (c .before .enum-told .given .1) j) (c .before .before .before .args .y))
@@ -39,13 +21,5 @@ returns-3 c = c .octant2 .ensures ∙ (λ j. symbolOf (sym (c .before .enum-told
 pub symbol-number-spec : {M : Type 1} → statement M
 symbol-number-spec =
     tie.close
-    (tie.spec
-    enum-told
-    bpsk-number-requires
-    enum-told-2
-    octant-requires
-    enum-told-3
-    octant-requires-2
-    returns
-    returns-2
-    returns-3)
+    (tie.spec (λ c. search needs) (λ c κs. search needs) (λ c. search needs) (λ c κs. search needs)
+    (λ c. search needs) (λ c κs. search needs) returns returns-2 returns-3)

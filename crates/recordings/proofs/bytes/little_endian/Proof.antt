@@ -35,9 +35,6 @@ module _ (c : tie.After-shared-slice-known2 Inv-loop μ-loop) where
   fits : getD l-of next 0 + 256 * c .before .before .loop .value < 2 ^ 64
   fits = let v = value-is in let r = room l-of bytes-of next (omega arith) (omega arith) in omega arith
 
-least-requires : tie.Need-least-requires Inv-loop μ-loop
-least-requires c κs = search needs
-
 loop-holds : tie.Need-loop-holds Inv-loop μ-loop
 loop-holds c =
     let l = c .before .before .args .bytes .now in
@@ -78,16 +75,5 @@ returns c =
 pub little-endian-spec : {M : Type 1} → statement M
 little-endian-spec =
     tie.close
-    (tie.spec
-    Inv-loop
-    μ-loop
-    least-requires
-    loop-holds
-    sub-i
-    shared-slice-read-b
-    cast-b
-    mul-value
-    add-value
-    loop-less
-    loop-again
-    returns)
+    (tie.spec Inv-loop μ-loop (λ c κs. search needs) loop-holds sub-i shared-slice-read-b cast-b mul-value
+    add-value loop-less loop-again returns)

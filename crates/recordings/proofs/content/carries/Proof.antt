@@ -6,12 +6,6 @@ use Rattle.recordings.specs.Content.{silent}
 use Rattle.recordings.proofs.content.carries.Statement.{statement}
 use Rattle.recordings.proofs.content.carries.Tie as tie
 
-is-finite-requires : tie.Need-is-finite-requires
-is-finite-requires c κs = search needs
-
-is-silent-requires : tie.Need-is-silent-requires
-is-silent-requires c κs = search needs
-
 returns : tie.Need-returns
 returns c = let finite = sym (c .before .before .is-finite .ensures) ∙ c .before .if1 .taken in λ j. sym finite j && not (c .is-silent .ensures j)
 
@@ -19,4 +13,4 @@ returns-2 : tie.Need-returns-2
 returns-2 c = let x = c .before .before .args .x in c .if1 .left ∙ ap (λ (b : Bool). b && not (silent x)) (sym (sym (c .before .is-finite .ensures) ∙ c .if1 .left))
 
 pub carries-spec : {M : Type 1} → statement M
-carries-spec = tie.close (tie.spec is-finite-requires is-silent-requires returns returns-2)
+carries-spec = tie.close (tie.spec (λ c κs. search needs) (λ c κs. search needs) returns returns-2)

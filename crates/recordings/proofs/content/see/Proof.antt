@@ -7,24 +7,12 @@ use Rattle.recordings.specs.Content.{seenBy}
 use Rattle.recordings.proofs.content.see.Statement.{statement}
 use Rattle.recordings.proofs.content.see.Tie as tie
 
-carries-requires : tie.Need-carries-requires
-carries-requires c κs = search needs
-
 returns : tie.Need-returns
 returns c = let some = sym (c .before .carries .ensures) ∙ c .if1 .taken in λ j. seenBy (sym some j) (c .before .before .args .before)
 
 -- a sample in which there is nothing to receive
 nothing : {b : Bool} {before now : Content} → b ≡ false → before ≡ now → seenBy false now ≡ seenBy b before
 nothing none was = λ j. seenBy (sym none j) (sym was j)
-
-enum-told : tie.Need-enum-told
-enum-told c = search needs
-
-enum-told-2 : tie.Need-enum-told-2
-enum-told-2 c = search needs
-
-enum-told-3 : tie.Need-enum-told-3
-enum-told-3 c = search needs
 
 returns-2 : tie.Need-returns-2
 returns-2 c = nothing (sym (c .before .before .before .carries .ensures) ∙ c .before .before .if1 .left) (c .enum-told .given .1)
@@ -38,12 +26,5 @@ returns-4 c = nothing (sym (c .before .before .before .carries .ensures) ∙ c .
 pub see-spec : {M : Type 1} → statement M
 see-spec =
     tie.close
-    (tie.spec
-    carries-requires
-    returns
-    enum-told
-    enum-told-2
-    enum-told-3
-    returns-2
-    returns-3
-    returns-4)
+    (tie.spec (λ c κs. search needs) returns (λ c. search needs) (λ c. search needs) (λ c. search needs) returns-2
+    returns-3 returns-4)

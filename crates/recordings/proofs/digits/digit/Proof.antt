@@ -5,17 +5,11 @@ use Rattle.recordings.proofs.Laws.Digits.{one-digit}
 use Rattle.recordings.proofs.digits.digit.Statement.{statement}
 use Rattle.recordings.proofs.digits.digit.Tie as tie
 
-symbol-number-requires : tie.Need-symbol-number-requires
-symbol-number-requires c κs = search needs
-
 add-result : tie.Need-add-result
 add-result c = let a = c .before .args in omega (arith, one-digit (a .constellation) (a .y), c .symbol-number .ensures)
 
 cast-result : tie.Need-cast-result
 cast-result c = let a = c .before .args in omega (arith, one-digit (a .constellation) (a .y), c .symbol-number .ensures)
 
-returns : tie.Need-returns
-returns c = search needs
-
 pub digit-spec : {M : Type 1} → statement M
-digit-spec = tie.close (tie.spec symbol-number-requires add-result cast-result returns)
+digit-spec = tie.close (tie.spec (λ c κs. search needs) add-result cast-result (λ c. search needs))

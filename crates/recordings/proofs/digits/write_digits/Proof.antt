@@ -19,22 +19,10 @@ Inv-loop constellation output n text₀ end k₀ text k = (k ≤ end) × (end �
 abbrev μ-loop : tie.MeasureT-loop
 μ-loop constellation output n text₀ end k₀ text k = end - k
 
-least-requires : tie.Need-least-requires Inv-loop μ-loop
-least-requires c κs = search needs
-
 loop-holds : tie.Need-loop-holds Inv-loop μ-loop
 loop-holds c =
     let a = c .before .before .before .args in
     (omega arith, c .least .ensures ∙ sym (length-digits (a .constellation) (a .output .now) (a .n)), begins _ refl)
-
-sample-at-requires : tie.Need-sample-at-requires Inv-loop μ-loop
-sample-at-requires c κs = search needs
-
-digit-requires : tie.Need-digit-requires Inv-loop μ-loop
-digit-requires c κs = search needs
-
-put-requires : tie.Need-put-requires Inv-loop μ-loop
-put-requires c κs = search needs
 
 add-k : tie.Need-add-k Inv-loop μ-loop
 add-k c = omega arith
@@ -50,9 +38,6 @@ loop-again c =
     let d = digit-at (a .constellation) (a .output .now) (a .n) (t .k) (omega arith) (c .before .before .before .before .before .sample-at .ensures) (c .before .before .before .digit .ensures) in
     (omega arith, t .inv .1, one-more (a .text .now) (spec.digits (a .constellation) (a .output .now) (a .n)) (t .k) (digitOf (a .constellation) silence) (omega arith) (t .inv .2) d (c .before .before .put .ensures))
 
-least-requires-2 : tie.Need-least-requires-2 Inv-loop μ-loop
-least-requires-2 c κs = search needs
-
 same-length : tie.Need-same-length Inv-loop μ-loop
 same-length c = c .before .before .loop .inv .2 .long
 
@@ -66,17 +51,5 @@ returns c =
 pub write-digits-spec : {M : Type 1} → statement M
 write-digits-spec =
     tie.close
-    (tie.spec
-    Inv-loop
-    μ-loop
-    least-requires
-    loop-holds
-    sample-at-requires
-    digit-requires
-    put-requires
-    add-k
-    loop-less
-    loop-again
-    least-requires-2
-    same-length
-    returns)
+    (tie.spec Inv-loop μ-loop (λ c κs. search needs) loop-holds (λ c κs. search needs) (λ c κs. search needs)
+    (λ c κs. search needs) add-k loop-less loop-again (λ c κs. search needs) same-length returns)

@@ -20,17 +20,11 @@ loop-holds c = laying-begins
 shared-slice-read-put : tie.Need-shared-slice-read-put Inv-loop μ-loop
 shared-slice-read-put c = omega arith
 
-put-requires : tie.Need-put-requires Inv-loop μ-loop
-put-requires c κs = search needs
-
 add-i : tie.Need-add-i Inv-loop μ-loop
 add-i c = omega arith
 
 add-put : tie.Need-add-put Inv-loop μ-loop
 add-put c = omega arith
-
-put-requires-2 : tie.Need-put-requires-2 Inv-loop μ-loop
-put-requires-2 c κs = search needs
 
 add-count : tie.Need-add-count Inv-loop μ-loop
 add-count c = omega arith
@@ -53,9 +47,6 @@ loop-less-2 c = omega arith
 loop-again-2 : tie.Need-loop-again-2 Inv-loop μ-loop
 loop-again-2 c = laying-inside (c .before .before .before .before .before .before .before .loop .inv) (c .before .before .before .before .before .before .loop-test .taken) (c .if1 .left) (c .before .before .before .put .ensures)
 
-least-requires : tie.Need-least-requires Inv-loop μ-loop
-least-requires c κs = search needs
-
 same-length : tie.Need-same-length Inv-loop μ-loop
 same-length c = c .before .before .loop .inv .text .long
 
@@ -68,22 +59,6 @@ returns c =
 pub write-lines-spec : {M : Type 1} → statement M
 write-lines-spec =
     tie.close
-    (tie.spec
-    Inv-loop
-    μ-loop
-    loop-holds
-    shared-slice-read-put
-    put-requires
-    add-i
-    add-put
-    put-requires-2
-    add-count
-    loop-less
-    loop-again
-    add-count-2
-    add-column
-    loop-less-2
-    loop-again-2
-    least-requires
-    same-length
-    returns)
+    (tie.spec Inv-loop μ-loop loop-holds shared-slice-read-put (λ c κs. search needs) add-i add-put
+    (λ c κs. search needs) add-count loop-less loop-again add-count-2 add-column loop-less-2 loop-again-2
+    (λ c κs. search needs) same-length returns)

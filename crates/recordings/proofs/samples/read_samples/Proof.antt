@@ -18,9 +18,6 @@ Inv-loop bytes samples₀ n end k₀ samples k = (k ≤ end) × (end ≤ length 
 abbrev μ-loop : tie.MeasureT-loop
 μ-loop bytes samples₀ n end k₀ samples k = end - k
 
-whole-requires : tie.Need-whole-requires Inv-loop μ-loop
-whole-requires c κs = search needs
-
 mul-end : tie.Need-mul-end Inv-loop μ-loop
 mul-end c = omega arith
 
@@ -62,17 +59,5 @@ returns c =
 pub read-samples-spec : {M : Type 1} → statement M
 read-samples-spec =
     tie.close
-    (tie.spec
-    Inv-loop
-    μ-loop
-    whole-requires
-    mul-end
-    loop-holds
-    f32-at-requires
-    mul-samples
-    slice-write-samples
-    add-k
-    loop-less
-    loop-again
-    same-length
-    returns)
+    (tie.spec Inv-loop μ-loop (λ c κs. search needs) mul-end loop-holds f32-at-requires mul-samples
+    slice-write-samples add-k loop-less loop-again same-length returns)

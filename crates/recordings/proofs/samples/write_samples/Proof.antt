@@ -18,9 +18,6 @@ Inv-loop samples bytes₀ n end k₀ bytes k = (k ≤ end) × (end ≤ length sa
 abbrev μ-loop : tie.MeasureT-loop
 μ-loop samples bytes₀ n end k₀ bytes k = end - k
 
-whole-requires : tie.Need-whole-requires Inv-loop μ-loop
-whole-requires c κs = search needs
-
 mul-end : tie.Need-mul-end Inv-loop μ-loop
 mul-end c = omega arith
 
@@ -62,17 +59,5 @@ returns c =
 pub write-samples-spec : {M : Type 1} → statement M
 write-samples-spec =
     tie.close
-    (tie.spec
-    Inv-loop
-    μ-loop
-    whole-requires
-    mul-end
-    loop-holds
-    mul-store-f32
-    shared-slice-read-store-f32
-    store-f32-requires
-    add-k
-    loop-less
-    loop-again
-    same-length
-    returns)
+    (tie.spec Inv-loop μ-loop (λ c κs. search needs) mul-end loop-holds mul-store-f32 shared-slice-read-store-f32
+    store-f32-requires add-k loop-less loop-again same-length returns)

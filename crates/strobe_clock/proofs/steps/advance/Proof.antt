@@ -7,9 +7,6 @@ use borrow.Author.Needs.{needs}
 use Rattle.strobe_clock.proofs.steps.advance.Statement.{statement}
 use Rattle.strobe_clock.proofs.steps.advance.Tie as tie
 
-settle-requires : tie.Need-settle-requires
-settle-requires c κs = search needs
-
 step-on-requires : tie.Need-step-on-requires
 step-on-requires c κs =
     let s = c .before in
@@ -20,4 +17,4 @@ returns : tie.Need-returns
 returns c = let a = c .before .before .args in c .step-on .ensures ∙ ap (advanced (a .p) (a .c)) (c .before .settle .ensures)
 
 pub advance-spec : {M : Type 1} → statement M
-advance-spec = tie.close (tie.spec settle-requires step-on-requires returns)
+advance-spec = tie.close (tie.spec (λ c κs. search needs) step-on-requires returns)

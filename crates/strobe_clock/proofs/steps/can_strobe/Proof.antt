@@ -9,8 +9,5 @@ use Rattle.strobe_clock.proofs.steps.can_strobe.Tie as tie
 returns : tie.Need-returns
 returns c = let a = c .before .args in sym (ap (λ (b : Bool). b && leb (a .i) (a .n)) (c .if1 .taken))
 
-returns-2 : tie.Need-returns-2
-returns-2 c = search needs
-
 pub can-strobe-spec : {M : Type 1} → statement M
-can-strobe-spec = tie.close (tie.spec returns returns-2)
+can-strobe-spec = tie.close (tie.spec returns (λ c. search needs))

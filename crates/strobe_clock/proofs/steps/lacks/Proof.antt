@@ -7,12 +7,6 @@ use borrow.Author.Needs.{needs}
 use Rattle.strobe_clock.proofs.steps.lacks.Statement.{statement}
 use Rattle.strobe_clock.proofs.steps.lacks.Tie as tie
 
-enum-told : tie.Need-enum-told
-enum-told c = search needs
-
-enum-told-2 : tie.Need-enum-told-2
-enum-told-2 c = search needs
-
 returns : tie.Need-returns
 unfolding lacking
 returns c =
@@ -30,4 +24,4 @@ unfolding lacking
 returns-3 c = let a = c .before .before .args in sym (ap (λ (t : Ted). lacking t (a .started) (a .mid-ready)) (c .enum-told2 .given .1))
 
 pub lacks-spec : {M : Type 1} → statement M
-lacks-spec = tie.close (tie.spec enum-told enum-told-2 returns returns-2 returns-3)
+lacks-spec = tie.close (tie.spec (λ c. search needs) (λ c. search needs) returns returns-2 returns-3)

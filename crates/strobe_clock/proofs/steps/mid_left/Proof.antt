@@ -6,12 +6,6 @@ use borrow.Author.Needs.{needs}
 use Rattle.strobe_clock.proofs.steps.mid_left.Statement.{statement}
 use Rattle.strobe_clock.proofs.steps.mid_left.Tie as tie
 
-enum-told : tie.Need-enum-told
-enum-told c = search needs
-
-enum-told-2 : tie.Need-enum-told-2
-enum-told-2 c = search needs
-
 returns : tie.Need-returns
 unfolding midLeft
 returns c = sym (ap (λ (t : Ted). midLeft t (c .before .before .args .mid-ready)) (c .enum-told .given .1))
@@ -21,4 +15,4 @@ unfolding midLeft
 returns-2 c = sym (ap (λ (t : Ted). midLeft t (c .before .before .args .mid-ready)) (c .enum-told2 .given .1))
 
 pub mid-left-spec : {M : Type 1} → statement M
-mid-left-spec = tie.close (tie.spec enum-told enum-told-2 returns returns-2)
+mid-left-spec = tie.close (tie.spec (λ c. search needs) (λ c. search needs) returns returns-2)

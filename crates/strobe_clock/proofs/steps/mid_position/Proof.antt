@@ -9,9 +9,6 @@ use Rattle.timing.proofs.Laws.Place.{back-asks, back-room, back-place}
 use Rattle.strobe_clock.proofs.steps.mid_position.Statement.{statement}
 use Rattle.strobe_clock.proofs.steps.mid_position.Tie as tie
 
-floor-requires : tie.Need-floor-requires
-floor-requires c κs = search needs
-
 count-requires : tie.Need-count-requires
 unfolding ofBits midway
 count-requires c κs = let s = c .before .before .before in back-asks (s .args .c .i) (midway (s .args .c)) (c .floor .result) (middle-back (s .pre)) (c .floor .ensures)
@@ -33,4 +30,4 @@ returns c =
     λ j. record { i = i j; mu = m j }
 
 pub mid-position-spec : {M : Type 1} → statement M
-mid-position-spec = tie.close (tie.spec floor-requires count-requires sub-i returns)
+mid-position-spec = tie.close (tie.spec (λ c κs. search needs) count-requires sub-i returns)

@@ -37,18 +37,6 @@ v-is c =
 floor-is : (c : tie.After-floor) → let a = c .before .before .before .before .before .before .before .before .before .args in c .floor .result ≡ floored (moved (a .p) (a .c) (a .e))
 floor-is c = c .floor .ensures ∙ ap floored (v-is (c .before))
 
-flush-denormal-f64-requires : tie.Need-flush-denormal-f64-requires
-flush-denormal-f64-requires c κs = search needs
-
-limit-f64-requires : tie.Need-limit-f64-requires
-limit-f64-requires c κs = search needs
-
-limit-f64-requires-2 : tie.Need-limit-f64-requires-2
-limit-f64-requires-2 c κs = search needs
-
-floor-requires : tie.Need-floor-requires
-floor-requires c κs = search needs
-
 count-requires : tie.Need-count-requires
 count-requires c κs =
     let s = c .before .before .before .before .before .before .before .before .before in
@@ -74,11 +62,5 @@ returns c =
 pub step-on-spec : {M : Type 1} → statement M
 step-on-spec =
     tie.close
-    (tie.spec
-    flush-denormal-f64-requires
-    limit-f64-requires
-    limit-f64-requires-2
-    floor-requires
-    count-requires
-    add-i
-    returns)
+    (tie.spec (λ c κs. search needs) (λ c κs. search needs) (λ c κs. search needs) (λ c κs. search needs)
+    count-requires add-i returns)

@@ -7,12 +7,9 @@ use borrow.Author.Needs.{needs}
 use Rattle.timing.proofs.clock.next_strobe.Statement.{statement}
 use Rattle.timing.proofs.clock.next_strobe.Tie as tie
 
-nearest-u64-to-f64-requires : tie.Need-nearest-u64-to-f64-requires
-nearest-u64-to-f64-requires c κs = search needs
-
 returns : tie.Need-returns
 unfolding nextStrobe ofBits
 returns c = ap (λ (x : Float). add binary64 (sub binary64 x three₀) (c .before .before .args .c .mu)) (c .before .nearest-u64-to-f64 .ensures)
 
 pub next-strobe-spec : {M : Type 1} → statement M
-next-strobe-spec = tie.close (tie.spec nearest-u64-to-f64-requires returns)
+next-strobe-spec = tie.close (tie.spec (λ c κs. search needs) returns)

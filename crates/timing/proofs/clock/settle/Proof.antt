@@ -16,9 +16,6 @@ use Rattle.timing.proofs.clock.settle.Tie as tie
 abbrev picked : Float → Bool → Bool → Float
 picked e started is = cond started (cond is e zero₀) zero₀
 
-is-finite-f32-requires : tie.Need-is-finite-f32-requires
-is-finite-f32-requires c κs = search needs
-
 float-to-float-result : tie.Need-float-to-float-result
 float-to-float-result c = let n = finite-not-nan (c .before .before .before .before .args .e) (yes (sym (c .before .before .is-finite-f32 .ensures) ∙ c .before .if2 .taken)) in search needs
 
@@ -36,4 +33,4 @@ returns-2 c =
     ]
 
 pub settle-spec : {M : Type 1} → statement M
-settle-spec = tie.close (tie.spec is-finite-f32-requires float-to-float-result returns returns-2)
+settle-spec = tie.close (tie.spec (λ c κs. search needs) float-to-float-result returns returns-2)

@@ -8,9 +8,6 @@ use Rattle.timing.specs.Gains.{kpOf, kiOf}
 use Rattle.timing.proofs.setup.gains_of.Statement.{statement}
 use Rattle.timing.proofs.setup.gains_of.Tie as tie
 
-inner-gains-requires : tie.Need-inner-gains-requires
-inner-gains-requires c κs = search needs
-
 returns : tie.Need-returns
 unfolding kpOf kiOf
 returns c =
@@ -19,4 +16,4 @@ returns c =
     ap with (c .before .before .inner-gains .ensures)
 
 pub gains-of-spec : {M : Type 1} → statement M
-gains-of-spec = tie.close (tie.spec inner-gains-requires returns)
+gains-of-spec = tie.close (tie.spec (λ c κs. search needs) returns)

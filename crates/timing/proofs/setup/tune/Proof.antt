@@ -40,33 +40,6 @@ passed5 : (c : tie.Else5) → positive (c .before .before .before .before .befor
 unfolding ofBits round
 passed5 c = passes (c .before .above-zero .ensures) (c .if5 .left)
 
-within-requires : tie.Need-within-requires
-within-requires c κs = search needs
-
-within-requires-2 : tie.Need-within-requires-2
-within-requires-2 c κs = search needs
-
-within-requires-3 : tie.Need-within-requires-3
-within-requires-3 c κs = search needs
-
-within-requires-4 : tie.Need-within-requires-4
-within-requires-4 c κs = search needs
-
-above-zero-requires : tie.Need-above-zero-requires
-above-zero-requires c κs = search needs
-
-gains-of-requires : tie.Need-gains-of-requires
-gains-of-requires c κs = search needs
-
-is-finite-f64-requires : tie.Need-is-finite-f64-requires
-is-finite-f64-requires c κs = search needs
-
-is-finite-f64-requires-2 : tie.Need-is-finite-f64-requires-2
-is-finite-f64-requires-2 c κs = search needs
-
-accepted-requires : tie.Need-accepted-requires
-accepted-requires c κs = search needs
-
 returns : tie.Need-returns
 unfolding tuned ofBits round
 returns c = (sym (first-refused Refused _ _ _ (fails (c .before .within .ensures) (c .if1 .taken))), tt)
@@ -121,20 +94,6 @@ returns-7 c =
 pub tune-spec : {M : Type 1} → statement M
 tune-spec =
     tie.close
-    (tie.spec
-    within-requires
-    returns
-    within-requires-2
-    returns-2
-    within-requires-3
-    returns-3
-    within-requires-4
-    returns-4
-    above-zero-requires
-    returns-5
-    gains-of-requires
-    is-finite-f64-requires
-    is-finite-f64-requires-2
-    returns-6
-    accepted-requires
-    returns-7)
+    (tie.spec (λ c κs. search needs) returns (λ c κs. search needs) returns-2 (λ c κs. search needs) returns-3
+    (λ c κs. search needs) returns-4 (λ c κs. search needs) returns-5 (λ c κs. search needs)
+    (λ c κs. search needs) (λ c κs. search needs) returns-6 (λ c κs. search needs) returns-7)

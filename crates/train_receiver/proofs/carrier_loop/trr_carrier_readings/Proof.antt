@@ -6,21 +6,6 @@ use borrow.Author.Needs.{needs}
 use Rattle.train_receiver.proofs.carrier_loop.trr_carrier_readings.Statement.{statement}
 use Rattle.train_receiver.proofs.carrier_loop.trr_carrier_readings.Tie as tie
 
-state-of-requires : tie.Need-state-of-requires
-state-of-requires c κs = search needs
-
-frequency-requires : tie.Need-frequency-requires
-frequency-requires c κs = search needs
-
-phase-requires : tie.Need-phase-requires
-phase-requires c κs = search needs
-
-lock-level-requires : tie.Need-lock-level-requires
-lock-level-requires c κs = search needs
-
-locked-requires : tie.Need-locked-requires
-locked-requires c κs = search needs
-
 returns : tie.Need-returns
 returns c =
     let u = c .before .before .before .before in
@@ -37,4 +22,6 @@ returns c =
 
 pub trr-carrier-readings-spec : {M : Type 1} → statement M
 trr-carrier-readings-spec =
-    tie.close (tie.spec state-of-requires frequency-requires phase-requires lock-level-requires locked-requires returns)
+    tie.close
+    (tie.spec (λ c κs. search needs) (λ c κs. search needs) (λ c κs. search needs) (λ c κs. search needs)
+    (λ c κs. search needs) returns)

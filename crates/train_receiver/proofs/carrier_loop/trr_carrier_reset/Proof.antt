@@ -9,14 +9,8 @@ use borrow.Author.Needs.{needs}
 use Rattle.train_receiver.proofs.carrier_loop.trr_carrier_reset.Statement.{statement}
 use Rattle.train_receiver.proofs.carrier_loop.trr_carrier_reset.Tie as tie
 
-state-of-requires : tie.Need-state-of-requires
-state-of-requires c κs = search needs
-
 reset-requires : tie.Need-reset-requires
 reset-requires c κs = came-given carrier-faithful (c .state-of .ensures) (c .before .pre)
-
-record-of-requires : tie.Need-record-of-requires
-record-of-requires c κs = search needs
 
 returns : tie.Need-returns
 returns c =
@@ -26,5 +20,4 @@ returns c =
     )
 
 pub trr-carrier-reset-spec : {M : Type 1} → statement M
-trr-carrier-reset-spec =
-    tie.close (tie.spec state-of-requires reset-requires record-of-requires returns)
+trr-carrier-reset-spec = tie.close (tie.spec (λ c κs. search needs) reset-requires (λ c κs. search needs) returns)

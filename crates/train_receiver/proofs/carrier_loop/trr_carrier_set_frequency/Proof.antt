@@ -9,14 +9,8 @@ use borrow.Author.Needs.{needs}
 use Rattle.train_receiver.proofs.carrier_loop.trr_carrier_set_frequency.Statement.{statement}
 use Rattle.train_receiver.proofs.carrier_loop.trr_carrier_set_frequency.Tie as tie
 
-state-of-requires : tie.Need-state-of-requires
-state-of-requires c κs = search needs
-
 set-frequency-requires : tie.Need-set-frequency-requires
 set-frequency-requires c κs = came-given carrier-faithful (c .state-of .ensures) (c .before .pre)
-
-record-of-requires : tie.Need-record-of-requires
-record-of-requires c κs = search needs
 
 returns : tie.Need-returns
 returns c =
@@ -27,4 +21,5 @@ returns c =
 
 pub trr-carrier-set-frequency-spec : {M : Type 1} → statement M
 trr-carrier-set-frequency-spec =
-    tie.close (tie.spec state-of-requires set-frequency-requires record-of-requires returns)
+    tie.close
+    (tie.spec (λ c κs. search needs) set-frequency-requires (λ c κs. search needs) returns)

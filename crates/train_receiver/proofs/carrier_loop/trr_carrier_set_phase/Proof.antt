@@ -9,14 +9,8 @@ use borrow.Author.Needs.{needs}
 use Rattle.train_receiver.proofs.carrier_loop.trr_carrier_set_phase.Statement.{statement}
 use Rattle.train_receiver.proofs.carrier_loop.trr_carrier_set_phase.Tie as tie
 
-state-of-requires : tie.Need-state-of-requires
-state-of-requires c κs = search needs
-
 set-phase-requires : tie.Need-set-phase-requires
 set-phase-requires c κs = came-given carrier-faithful (c .state-of .ensures) (c .before .pre)
-
-record-of-requires : tie.Need-record-of-requires
-record-of-requires c κs = search needs
 
 returns : tie.Need-returns
 returns c =
@@ -27,4 +21,5 @@ returns c =
 
 pub trr-carrier-set-phase-spec : {M : Type 1} → statement M
 trr-carrier-set-phase-spec =
-    tie.close (tie.spec state-of-requires set-phase-requires record-of-requires returns)
+    tie.close
+    (tie.spec (λ c κs. search needs) set-phase-requires (λ c κs. search needs) returns)

@@ -12,12 +12,6 @@ use Rattle.train_receiver.proofs.carrier_loop.trr_carrier_set_up.Tie as
 abbrev openedWith : tie.Start → CostasConstellation → SetUp
 openedWith s points = let v = s .args .v in opened points (v .«loop_bw») (v .damping) (v .«max_offset»)
 
-constellation-requires : tie.Need-constellation-requires
-constellation-requires c κs = search needs
-
-set-up-requires : tie.Need-set-up-requires
-set-up-requires c κs = search needs
-
 answer-of-requires : tie.Need-answer-of-requires
 answer-of-requires c κs = c .set-up .ensures .1
 
@@ -31,4 +25,5 @@ returns c =
 
 pub trr-carrier-set-up-spec : {M : Type 1} → statement M
 trr-carrier-set-up-spec =
-    tie.close (tie.spec constellation-requires set-up-requires answer-of-requires returns)
+    tie.close
+    (tie.spec (λ c κs. search needs) (λ c κs. search needs) answer-of-requires returns)

@@ -10,14 +10,8 @@ use borrow.Author.Needs.{needs}
 use Rattle.train_receiver.proofs.complex_timing.trr_complex_reset.Statement.{statement}
 use Rattle.train_receiver.proofs.complex_timing.trr_complex_reset.Tie as tie
 
-state-of-requires : tie.Need-state-of-requires
-state-of-requires c κs = search needs
-
 reset-requires : tie.Need-reset-requires
 reset-requires c κs = came-given complex-faithful (c .state-of .ensures) (c .before .pre)
-
-record-of-requires : tie.Need-record-of-requires
-record-of-requires c κs = search needs
 
 returns : tie.Need-returns
 returns c =
@@ -27,5 +21,4 @@ returns c =
     )
 
 pub trr-complex-reset-spec : {M : Type 1} → statement M
-trr-complex-reset-spec =
-    tie.close (tie.spec state-of-requires reset-requires record-of-requires returns)
+trr-complex-reset-spec = tie.close (tie.spec (λ c κs. search needs) reset-requires (λ c κs. search needs) returns)

@@ -14,12 +14,6 @@ use Rattle.train_receiver.proofs.real_timing.trr_real_set_up.Tie as tie
 abbrev openedWith : tie.Start → Ted → Opening Float
 openedWith s ted = let v = s .args .v in openedBy real (tuned (v .sps) ted (v .«loop_bw») (v .damping) (v .«max_deviation») (v .«ted_gain»))
 
-detector-requires : tie.Need-detector-requires
-detector-requires c κs = search needs
-
-set-up-requires : tie.Need-set-up-requires
-set-up-requires c κs = search needs
-
 answer-of-requires : tie.Need-answer-of-requires
 answer-of-requires c κs = c .set-up .ensures .1
 
@@ -32,4 +26,4 @@ returns c =
     )
 
 pub trr-real-set-up-spec : {M : Type 1} → statement M
-trr-real-set-up-spec = tie.close (tie.spec detector-requires set-up-requires answer-of-requires returns)
+trr-real-set-up-spec = tie.close (tie.spec (λ c κs. search needs) (λ c κs. search needs) answer-of-requires returns)

@@ -9,14 +9,8 @@ use borrow.Author.Needs.{needs}
 use Rattle.train_receiver.proofs.whole.trr_receiver_reset.Statement.{statement}
 use Rattle.train_receiver.proofs.whole.trr_receiver_reset.Tie as tie
 
-receiver-of-requires : tie.Need-receiver-of-requires
-receiver-of-requires c κs = search needs
-
 reset-requires : tie.Need-reset-requires
 reset-requires c κs = came-given receiver-faithful (c .receiver-of .ensures) (c .before .pre)
-
-record-of-requires : tie.Need-record-of-requires
-record-of-requires c κs = search needs
 
 returns : tie.Need-returns
 returns c =
@@ -26,5 +20,4 @@ returns c =
     )
 
 pub trr-receiver-reset-spec : {M : Type 1} → statement M
-trr-receiver-reset-spec =
-    tie.close (tie.spec receiver-of-requires reset-requires record-of-requires returns)
+trr-receiver-reset-spec = tie.close (tie.spec (λ c κs. search needs) reset-requires (λ c κs. search needs) returns)

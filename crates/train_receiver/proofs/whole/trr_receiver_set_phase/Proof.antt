@@ -9,14 +9,8 @@ use borrow.Author.Needs.{needs}
 use Rattle.train_receiver.proofs.whole.trr_receiver_set_phase.Statement.{statement}
 use Rattle.train_receiver.proofs.whole.trr_receiver_set_phase.Tie as tie
 
-receiver-of-requires : tie.Need-receiver-of-requires
-receiver-of-requires c κs = search needs
-
 set-phase-requires : tie.Need-set-phase-requires
 set-phase-requires c κs = came-given receiver-faithful (c .receiver-of .ensures) (c .before .pre)
-
-record-of-requires : tie.Need-record-of-requires
-record-of-requires c κs = search needs
 
 returns : tie.Need-returns
 returns c =
@@ -27,4 +21,5 @@ returns c =
 
 pub trr-receiver-set-phase-spec : {M : Type 1} → statement M
 trr-receiver-set-phase-spec =
-    tie.close (tie.spec receiver-of-requires set-phase-requires record-of-requires returns)
+    tie.close
+    (tie.spec (λ c κs. search needs) set-phase-requires (λ c κs. search needs) returns)

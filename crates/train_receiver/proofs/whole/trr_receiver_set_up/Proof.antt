@@ -6,15 +6,6 @@ use borrow.Author.Needs.{needs}
 use Rattle.train_receiver.proofs.whole.trr_receiver_set_up.Statement.{statement}
 use Rattle.train_receiver.proofs.whole.trr_receiver_set_up.Tie as tie
 
-constellation-requires : tie.Need-constellation-requires
-constellation-requires c κs = search needs
-
-values-of-requires : tie.Need-values-of-requires
-values-of-requires c κs = search needs
-
-set-up-requires : tie.Need-set-up-requires
-set-up-requires c κs = search needs
-
 answer-of-requires : tie.Need-answer-of-requires
 answer-of-requires c κs = c .set-up .ensures .1
 
@@ -29,4 +20,5 @@ returns c =
 
 pub trr-receiver-set-up-spec : {M : Type 1} → statement M
 trr-receiver-set-up-spec =
-    tie.close (tie.spec constellation-requires values-of-requires set-up-requires answer-of-requires returns)
+    tie.close
+    (tie.spec (λ c κs. search needs) (λ c κs. search needs) (λ c κs. search needs) answer-of-requires returns)

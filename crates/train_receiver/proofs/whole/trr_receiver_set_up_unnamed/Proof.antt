@@ -6,12 +6,6 @@ use borrow.Author.Needs.{needs}
 use Rattle.train_receiver.proofs.whole.trr_receiver_set_up_unnamed.Statement.{statement}
 use Rattle.train_receiver.proofs.whole.trr_receiver_set_up_unnamed.Tie as tie
 
-values-of-requires : tie.Need-values-of-requires
-values-of-requires c κs = search needs
-
-set-up-unnamed-requires : tie.Need-set-up-unnamed-requires
-set-up-unnamed-requires c κs = search needs
-
 answer-of-requires : tie.Need-answer-of-requires
 answer-of-requires c κs = c .set-up-unnamed .ensures .1
 
@@ -25,4 +19,5 @@ returns c =
 
 pub trr-receiver-set-up-unnamed-spec : {M : Type 1} → statement M
 trr-receiver-set-up-unnamed-spec =
-    tie.close (tie.spec values-of-requires set-up-unnamed-requires answer-of-requires returns)
+    tie.close
+    (tie.spec (λ c κs. search needs) (λ c κs. search needs) answer-of-requires returns)

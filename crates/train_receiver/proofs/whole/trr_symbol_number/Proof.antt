@@ -6,16 +6,10 @@ use borrow.Author.Needs.{needs}
 use Rattle.train_receiver.proofs.whole.trr_symbol_number.Statement.{statement}
 use Rattle.train_receiver.proofs.whole.trr_symbol_number.Tie as tie
 
-constellation-requires : tie.Need-constellation-requires
-constellation-requires c κs = search needs
-
-symbol-number-requires : tie.Need-symbol-number-requires
-symbol-number-requires c κs = search needs
-
 returns : tie.Need-returns
 returns c =
     let a = c .before .before .args in
     c .symbol-number .ensures ∙ ap (λ (k : CostasConstellation). symbolOf k (record { re = a .re; im = a .im })) (c .before .constellation .ensures)
 
 pub trr-symbol-number-spec : {M : Type 1} → statement M
-trr-symbol-number-spec = tie.close (tie.spec constellation-requires symbol-number-requires returns)
+trr-symbol-number-spec = tie.close (tie.spec (λ c κs. search needs) (λ c κs. search needs) returns)

@@ -5,15 +5,6 @@ use borrow.Author.Needs.{needs}
 use Rattle.values.proofs.counts.counts_of.Statement.{statement}
 use Rattle.values.proofs.counts.counts_of.Tie as tie
 
-enum-known-a : tie.Need-enum-known-a
-enum-known-a c = search needs
-
-enum-known-a-2 : tie.Need-enum-known-a-2
-enum-known-a-2 c = search needs
-
-number-requires : tie.Need-number-requires
-number-requires c κs = search needs
-
 returns : tie.Need-returns
 returns c = sym (ap countsOf (c .before .a .given .1))
 
@@ -21,4 +12,4 @@ returns-2 : tie.Need-returns-2
 returns-2 c = (λ j. record { number = c .number .ensures j; consumed = 0; produced = 0 }) ∙ sym (ap countsOf (c .before .before .a2 .given .1))
 
 pub counts-of-spec : {M : Type 1} → statement M
-counts-of-spec = tie.close (tie.spec enum-known-a enum-known-a-2 number-requires returns returns-2)
+counts-of-spec = tie.close (tie.spec (λ c. search needs) (λ c. search needs) (λ c κs. search needs) returns returns-2)
