@@ -46,6 +46,10 @@ abbrev pub setUpNumber : SetUp → ℕ
 setUpNumber (Ready s) = 0
 setUpNumber (Refused n) = numberOf n
 
+-- p is what an accepted set-up works out
+abbrev pub Accepted : CostasConstellation → Params → Type 0
+Accepted c p = opened c (p .«loop_bw») (p .damping) (p .«max_offset») ≡ Ready (fresh c p)
+
 -- "A phase may be set"
 abbrev pub phaseSet : CostasState → ℕ → CostasState
 phaseSet s phase = record { constellation = s .constellation; params = s .params; track = record { nco = record { phase = phase; freq = s .track .nco .freq }; lock = s .track .lock } }
@@ -60,7 +64,7 @@ frequencySet s freq = record { constellation = s .constellation; params = s .par
 -- ---- a state that a set-up, a reset, a setter or a run has given: all that a public call requires
 pub record Given (s : CostasState) : Type 0 where
   -- its parameters are those of a set-up that is accepted
-  pub accepted : opened (s .constellation) (s .params .«loop_bw») (s .params .damping) (s .params .«max_offset») ≡ Ready (fresh (s .constellation) (s .params))
+  pub accepted : Accepted (s .constellation) (s .params)
   pub phase-in : s .track .nco .phase < 2 ^ 32
   -- "-max ≤ frequency ≤ max"
   pub freq-low : T (le (neg (s .params .max)) (s .track .nco .freq))

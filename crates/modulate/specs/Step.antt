@@ -1,5 +1,5 @@
 -- "Phase adds floor(v × 2^32 + 1/2) mod 2^32, …; from 2^31 up it adds 4,294,967,295, from -2^31 down 0." Definitions only.
-use Prim.Native.Nat.{ℕ, _+_, _-_, _*_, _%_, _^_}
+use Prim.Native.Nat.{ℕ, _+_, _-_, _*_, _%_, _^_, _≤_, _<_}
 use mathlib.Core.Bool.{Bool, true, false, cond}
 use lib.IntN.{pos}
 use lib.Dec.{leb}
@@ -55,3 +55,8 @@ magicRange = fin false 1 (pos 51)
 -- 2^14
 abbrev pub bitsRange : Float
 bitsRange = fin false 1 (pos 14)
+
+-- ---- what the floor is: ±n is floor(±a / c + 1/2), ±n ≤ ±a / c + 1/2 < ±n + 1, times 2 c
+abbrev pub Floored : Bool → ℕ → ℕ → ℕ → Type 0
+Floored false a c n = (n * (2 * c) ≤ 2 * a + c) × (2 * a + c < n * (2 * c) + 2 * c)
+Floored true a c n = (2 * a ≤ n * (2 * c) + c) × (n * (2 * c) < 2 * a + c)

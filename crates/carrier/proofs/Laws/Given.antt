@@ -29,9 +29,9 @@ use Rattle.detectors.specs.Detector.{errorOf}
 use Rattle.detectors.proofs.Laws.Errors.{error-finite}
 use Rattle.carrier.specs.Filter.{newFreq, advanced}
 use Rattle.carrier.specs.Step.{outputOf, stepped, runs}
-use Rattle.carrier.specs.State.{fresh, phaseSet, frequencyOf, frequencySet, Given}
+use Rattle.carrier.specs.State.{fresh, phaseSet, frequencyOf, frequencySet, Given, Accepted}
 use Rattle.carrier.specs.Run.{refusedCall, done, called}
-use Rattle.carrier.proofs.Laws.Setup.{Accepted, Limits, limits}
+use Rattle.carrier.proofs.Laws.Setup.{Limits, limits}
 use Rattle.carrier.proofs.Laws.Gains.{accepted-gains}
 
 -- ---- what lies within the limit

@@ -19,7 +19,7 @@ use Rattle.constellations.specs.declared.kinds.CostasConstellation.{CostasConst
 use Rattle.carrier.specs.declared.params.Params.{Params}
 use Rattle.carrier.specs.declared.state.CostasState.{CostasState}
 use Rattle.carrier.specs.declared.state.SetUp.the-variants.{Ready, Refused}
-use Rattle.carrier.specs.State.{paramsOf, fresh, rows, opened, setUpNumber}
+use Rattle.carrier.specs.State.{paramsOf, fresh, rows, opened, setUpNumber, Accepted}
 
 -- ---- which set-up is refused, by its number
 pub refused-exactly : (c : CostasConstellation) (bw damping offset : Float) → Exactly (setUpNumber (opened c bw damping offset)) (rows bw damping offset)
@@ -31,9 +31,6 @@ pub all-passed : (c : CostasConstellation) (bw damping offset : Float) → inRan
     → opened c bw damping offset ≡ Ready (fresh c (paramsOf bw damping offset))
 unfolding opened
 all-passed c bw damping offset u v w = first-passed Refused _ _ _ u ∙ first-passed Refused _ _ _ v ∙ first-passed Refused _ _ _ w ∙ first-none Refused _
-
-abbrev pub Accepted : CostasConstellation → Params → Type 0
-Accepted c p = opened c (p .«loop_bw») (p .damping) (p .«max_offset») ≡ Ready (fresh c p)
 
 -- the parameters that a set-up with the values of p works out
 abbrev workedOut : Params → Params

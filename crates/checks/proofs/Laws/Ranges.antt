@@ -5,8 +5,8 @@ use lib.Ieee.{Float, le}
 use lib.Ieee.Fits.{and-l, and-r}
 use lib.Ieee.Scale.{finite}
 use Rattle.ieee.specs.Notation.{zero₀}
-use Rattle.ieee.proofs.Laws.Span.{Span}
 use Rattle.checks.specs.Range.{inRange}
+use Rattle.ieee.specs.Fraction.{Span}
 
 pub record Ranged (lo x hi : Float) : Type 0 where
   pub is : T (finite x)

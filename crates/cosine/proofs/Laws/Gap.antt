@@ -12,9 +12,9 @@ use lib.Pow.{pow-add, pow-pos, pow-mono}
 use lib.Ieee.{Float, nan, inf, fin, Format, binary32, binary64, prec, hid, lt, fits}
 use lib.Ieee.Scale.{finite}
 use lib.Ieee.Positive.{den, den-pos}
-use Rattle.ieee.specs.Fraction.{plus, less}
+use Rattle.ieee.specs.Fraction.{plus, less, Val}
 use Rattle.ieee.proofs.Laws.Test.{order}
-use Rattle.ieee.proofs.Laws.Order.{products, Val, one-part, lt→cross}
+use Rattle.ieee.proofs.Laws.Order.{products, one-part, lt→cross}
 use Rattle.ieee.proofs.Laws.Held.{fits-parts, pow-back, pow-below}
 
 -- ---- a value of the format is a whole number of 1 / 2^k, or less than 2^(prec - 1) of them

@@ -10,9 +10,9 @@ use lib.Ieee.Fits.{down-pos}
 use lib.Ieee.Scale.{finite}
 use lib.Ieee.Positive.{den}
 use Rattle.ieee.specs.Notation.{zero₀}
-use Rattle.ieee.specs.Fraction.{plus, less}
+use Rattle.ieee.specs.Fraction.{plus, less, Val}
 use Rattle.ieee.proofs.Laws.Round.{round-zero}
-use Rattle.ieee.proofs.Laws.Order.{products, Val}
+use Rattle.ieee.proofs.Laws.Order.{products}
 
 -- the sum's two tests, t whether a < b and i whether the result has a minus sign
 none-left : (f : Format) (u t i : Bool) (a b c : ℕ) → 0 < c → a ≡ b → (T t → a < b) → (T i → b < a) → cond t (round f u (b - a) c) (round f i (a - b) c) ≡ zero₀

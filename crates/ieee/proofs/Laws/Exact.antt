@@ -18,11 +18,11 @@ use lib.Ieee.Scale.{finite, round-same}
 use lib.Ieee.Positive.{den, den-pos}
 use Rattle.ieee.specs.Notation.{zero₀, half₀, one₀}
 use Rattle.ieee.specs.Alike.{Alike}
-use Rattle.ieee.specs.Fraction.{plus, less}
+use Rattle.ieee.specs.Fraction.{plus, less, Val, Exact}
 use Rattle.ieee.proofs.Laws.Round.{round-zero}
 use Rattle.ieee.proofs.Laws.Like.{add-fin, mul-fin}
 use Rattle.ieee.proofs.Laws.Test.{order}
-use Rattle.ieee.proofs.Laws.Order.{Val, has-val, val-same, one-part, between}
+use Rattle.ieee.proofs.Laws.Order.{has-val, val-same, one-part, between}
 use Rattle.ieee.proofs.Laws.Rounds.{Rounds, high, deep, rounds-same, mul-rounds}
 use Rattle.ieee.proofs.Laws.Held.{fits-parts, on-grid, rounds-above, rounds-below}
 use Rattle.ieee.proofs.Laws.Unique.{le-both, value-unique}
@@ -38,10 +38,6 @@ rounds-held f y z p n c C t v r =
     let lo = rounds-above f y z p n c p n c t v C C r (le-of-eq refl) in
     let hi = rounds-below f y z p n c p n c t v C C r (le-of-eq refl) in
     le-both f z y (rounds-fits f z p n c r) t (between y z y (v .0) (v .0) lo hi) (v .0) hi lo
-
--- the same of magnitudes: a / c is on the format's grid
-abbrev pub Exact : Format → ℕ → ℕ → Type 0
-Exact f a c = (s : Bool) → HasValue (round f s a c) s a c
 
 pub rounds-exact : (f : Format) (z : Float) (p n c : ℕ) → (n ≤ p → Exact f (p - n) c) → (p ≤ n → Exact f (n - p) c) → Rounds f z p n c → Val z p n c
 rounds-exact f z p n c g h (high a e) = rw e (let v = has-val (round f false (p - n) c) false (p - n) c (g a false) in (v .0, over p n c _ _ _ a (v .1)))

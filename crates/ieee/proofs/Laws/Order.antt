@@ -15,7 +15,7 @@ use lib.Ieee.Exact.{HasValue}
 use lib.Ieee.Scale.{finite}
 use lib.Ieee.Positive.{den, den-pos}
 use Rattle.ieee.specs.Notation.{zero₀}
-use Rattle.ieee.specs.Fraction.{plus, less}
+use Rattle.ieee.specs.Fraction.{plus, less, Val}
 use Rattle.ieee.proofs.Laws.Test.{or-split, or-left, or-right}
 use Rattle.ieee.proofs.Laws.Compare.{eq-swap}
 
@@ -177,10 +177,6 @@ one-part (fin false m e) = inr refl
 pub plus-some : (x : Float) → T (finite x) → T (lt zero₀ x) → (0 < plus x) × (less x ≡ 0)
 plus-some (fin false m e) p h = let k = lt→cross zero₀ (fin false m e) tt p h in (omega arith, refl)
 plus-some (fin true m e) p h = let k = lt→cross zero₀ (fin true m e) tt p h in (omega arith, omega arith)
-
--- ---- x is (p - n) / c, for a c above 0
-abbrev pub Val : Float → ℕ → ℕ → ℕ → Type 0
-Val x p n c = T (finite x) × (plus x * c + n * den x ≡ p * den x + less x * c)
 
 pub own-val : (x : Float) → T (finite x) → Val x (plus x) (less x) (den x)
 own-val x h = (h, refl)

@@ -12,9 +12,9 @@ use lib.Ieee.Order.{round-mono}
 use lib.Ieee.Scale.{finite, round-same}
 use lib.Ieee.Bits.{is-false}
 use lib.Ieee.Positive.{first-pos, den, den-pos}
-use Rattle.ieee.specs.Fraction.{plus, less}
+use Rattle.ieee.specs.Fraction.{plus, less, Val}
 use Rattle.ieee.proofs.Laws.Round.{NonNeg, round-neg, round-zero, round-nonneg}
-use Rattle.ieee.proofs.Laws.Order.{products, cross→le, Val, neg-val, neg-le}
+use Rattle.ieee.proofs.Laws.Order.{products, cross→le, neg-val, neg-le}
 
 opposite : (x y : Float) → NonNeg x → NonNeg y → T (le (neg x) y)
 unfolding neg

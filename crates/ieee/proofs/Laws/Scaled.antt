@@ -12,11 +12,10 @@ use lib.Ieee.Fits.{down-pos}
 use lib.Ieee.Exact.{HasValue, round-exact}
 use lib.Ieee.Scale.{finite, round-same}
 use lib.Ieee.Positive.{den}
-use Rattle.ieee.specs.Fraction.{plus, less}
+use Rattle.ieee.specs.Fraction.{plus, less, Exact}
 use Rattle.ieee.proofs.Laws.Algebra.{mul-swap}
 use Rattle.ieee.proofs.Laws.Like.{mul-fin}
 use Rattle.ieee.proofs.Laws.Held.{fits-parts, pow-back}
-use Rattle.ieee.proofs.Laws.Exact.{Exact}
 
 -- ---- 2 ^ k times m * 2 ^ e, which is m * 2 ^ i of the format's smallest values
 on-scale : (f : Format) (m : ℕ) (e : ℤ) (k i : ℕ) → m < 2 ^ prec f → m * up e * 2 ^ k < 2 ^ suc (emax f) * down e → m * up e * 2 ^ k * 2 ^ low f ≡ m * 2 ^ i * down e → Exact f (m * up e * 2 ^ k) (down e)

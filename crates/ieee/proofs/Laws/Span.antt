@@ -8,7 +8,7 @@ use lib.Ieee.{Float, Format, add, mul, div, le, lt, fits}
 use lib.Ieee.Scale.{finite}
 use lib.Ieee.Positive.{den, den-pos}
 use Rattle.ieee.specs.Notation.{zero₀}
-use Rattle.ieee.specs.Fraction.{less}
+use Rattle.ieee.specs.Fraction.{less, Span}
 use Rattle.ieee.proofs.Laws.Order.{less-none, plus-some, le-trans-float, le-refl-float, not-le→lt, not-below, finite-number, between}
 use Rattle.ieee.proofs.Laws.Rounds.{Rounds, add-rounds, div-rounds}
 use Rattle.ieee.proofs.Laws.Held.{rounds-above}
@@ -35,13 +35,6 @@ div-nonneg f x y p q h k =
 -- what lies above a value above 0 does too
 above-zero : (x y : Float) → T (finite x) → T (finite y) → T (lt zero₀ x) → T (le x y) → T (lt zero₀ y)
 above-zero x y p q u h = not-le→lt y zero₀ (finite-number y q) tt (not-T (le y zero₀) (λ g. not-below zero₀ x tt p (le-trans-float x y zero₀ h g) u))
-
--- ---- x lies in lo to hi
-pub record Span (lo hi x : Float) : Type 0 where
-  pub top : T (finite hi)
-  pub from : T (le zero₀ lo)
-  pub low : T (le lo x)
-  pub high : T (le x hi)
 
 pub span-above : {lo hi x : Float} → Span lo hi x → T (le zero₀ x)
 span-above {lo} {hi} {x} a = le-trans-float zero₀ lo x (a .from) (a .low)

@@ -16,9 +16,10 @@ use lib.Ieee.Order.{transfer}
 use lib.Ieee.Bits.{ofBits-toBits}
 use lib.Ieee.Scale.{finite}
 use Rattle.ieee.specs.Alike.{plain, signed, Alike, sameNumber}
+use Rattle.ieee.specs.Fraction.{Val}
 use Rattle.ieee.proofs.Laws.Like.{like-refl, like-of-eq, like-zero}
 use Rattle.ieee.proofs.Laws.Test.{or-split}
-use Rattle.ieee.proofs.Laws.Order.{le→cross, Val, vals→le}
+use Rattle.ieee.proofs.Laws.Order.{le→cross, vals→le}
 
 -- ---- two values that the format holds, and that are the same number with the same sign, are one
 bits-same : (f : Format) (s : Bool) (m n : ℕ) (e d : ℤ) → m * up e * down d ≡ n * up d * down e → toBits f (fin s m e) ≡ toBits f (fin s n d)

@@ -13,9 +13,9 @@ use lib.Ieee.Fits.{add-fits}
 use lib.Ieee.Exact.{HasValue}
 use lib.Ieee.Scale.{finite}
 use lib.Ieee.Positive.{den, den-pos}
-use Rattle.ieee.specs.Fraction.{plus, less}
+use Rattle.ieee.specs.Fraction.{plus, less, Val}
 use Rattle.ieee.proofs.Laws.Nan.{finite-not-nan}
-use Rattle.ieee.proofs.Laws.Order.{Val, own-val, val-has, val-same, lt→vals, le→vals, not-lt→le, finite-number, inside-finite, inside-size}
+use Rattle.ieee.proofs.Laws.Order.{own-val, val-has, val-same, lt→vals, le→vals, not-lt→le, finite-number, inside-finite, inside-size}
 use Rattle.ieee.proofs.Laws.Rounds.{add-at, sub-at}
 use Rattle.ieee.proofs.Laws.Exact.{rounds-whole}
 use Rattle.ieee.proofs.Laws.Bits.{whole-bits}

@@ -1,7 +1,7 @@
 -- `rounded` is floor(±a / c + 1/2), and `phaseStep` of a value below 2^31 in size is that floor modulo 2^32, whichever fraction the value is written as. Assumes nothing.
 use mathlib.Core.Path.{_≡_, sym, ap}
 use mathlib.Core.Logic.{inl, inr}
-use Prim.Native.Nat.{ℕ, _+_, _-_, _*_, _%_, _^_, _≤_, _<_}
+use Prim.Native.Nat.{ℕ, _+_, _-_, _*_, _%_, _^_, _<_}
 use native.Mathlib.Nat.{mul-le-mul-right, mul-lt-mul-of-pos-right, le-of-mul-le-mul-right, lt-of-mul-lt-mul-right, div-mul-le-self, lt-div-mul-add, div-eq-of-lt, div-eq-of-lt-le}
 use native.Mathlib.Omega.{arith}
 use mathlib.Core.Bool.{Bool, true, false, cond}
@@ -10,12 +10,7 @@ use lib.Ieee.Fits.{down-pos}
 use lib.Ieee.Exact.{HasValue}
 use borrow.Author.Tests.{lt-leb}
 use Rattle.ieee.proofs.Laws.Test.{order}
-use Rattle.modulate.specs.Step.{wrapped, halfMore, rounded, phaseStep}
-
--- ---- ±n is floor(±a / c + 1/2): ±n ≤ ±a / c + 1/2 < ±n + 1, times 2 c
-abbrev pub Floored : Bool → ℕ → ℕ → ℕ → Type 0
-Floored false a c n = (n * (2 * c) ≤ 2 * a + c) × (2 * a + c < n * (2 * c) + 2 * c)
-Floored true a c n = (2 * a ≤ n * (2 * c) + c) × (n * (2 * c) < 2 * a + c)
+use Rattle.modulate.specs.Step.{wrapped, halfMore, rounded, phaseStep, Floored}
 
 pub rounded-floor : (s : Bool) (a c : ℕ) → 0 < c → Floored s a c (rounded s a c)
 rounded-floor false a c C =

@@ -14,12 +14,12 @@ use lib.Ieee.Fits.{down-pos}
 use lib.Ieee.Scale.{finite}
 use lib.Ieee.Positive.{den, den-pos}
 use Rattle.ieee.specs.Notation.{zero₀, half₀}
-use Rattle.ieee.specs.Fraction.{plus, less}
+use Rattle.ieee.specs.Fraction.{plus, less, Val, Exact}
 use Rattle.ieee.proofs.Laws.Test.{order}
-use Rattle.ieee.proofs.Laws.Order.{Val, own-val, has-val, cross→le, le→vals, between}
+use Rattle.ieee.proofs.Laws.Order.{own-val, has-val, cross→le, le→vals, between}
 use Rattle.ieee.proofs.Laws.Rounds.{Rounds, high, deep, rounds-same, mul-at, add-at}
 use Rattle.ieee.proofs.Laws.Held.{fits-parts, pow-back, on-grid, rounds-above, rounds-below}
-use Rattle.ieee.proofs.Laws.Exact.{Exact, rounds-one-sided, rounds-exact, parts-exact}
+use Rattle.ieee.proofs.Laws.Exact.{rounds-one-sided, rounds-exact, parts-exact}
 use Rattle.ieee.proofs.Laws.Mono.{add-mono, mul-mono-left}
 use Rattle.ieee.proofs.Laws.Even.{round-even}
 use Rattle.modulate.specs.Step.{stepOf, stepped, phaseStep, turn₀}

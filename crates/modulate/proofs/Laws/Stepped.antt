@@ -12,8 +12,8 @@ use lib.Ieee.Fits.{down-pos}
 use lib.Ieee.Scale.{finite}
 use lib.Ieee.Positive.{den, den-pos}
 use borrow.Author.Tests.{le-leb, lt-leb}
-use Rattle.ieee.specs.Fraction.{plus, less}
-use Rattle.ieee.proofs.Laws.Order.{Val, own-val, ineq, ineq-lt, le→cross}
+use Rattle.ieee.specs.Fraction.{plus, less, Val}
+use Rattle.ieee.proofs.Laws.Order.{own-val, ineq, ineq-lt, le→cross}
 use Rattle.numbers.specs.Whole.{wholeDown, floorPlus, floorLess}
 use Rattle.numbers.proofs.Laws.Whole.{floor-under, floor-next}
 use Rattle.modulate.specs.Step.{wrapped, rounded, castEnd, stepped, phaseStep}

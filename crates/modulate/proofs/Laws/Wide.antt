@@ -12,8 +12,8 @@ use lib.Ieee.Fits.{down-pos}
 use lib.Ieee.Scale.{finite}
 use lib.Ieee.Positive.{den}
 use Rattle.ieee.specs.Notation.{zero₀}
-use Rattle.ieee.specs.Fraction.{plus, less}
-use Rattle.ieee.proofs.Laws.Order.{multiple-less, Val, neg-val, vals→lt, lt→vals, le→vals, not-lt→le, not-le→lt, above-number, finite-number, inside-finite, inside-size}
+use Rattle.ieee.specs.Fraction.{plus, less, Val}
+use Rattle.ieee.proofs.Laws.Order.{multiple-less, neg-val, vals→lt, lt→vals, le→vals, not-lt→le, not-le→lt, above-number, finite-number, inside-finite, inside-size}
 use Rattle.numbers.specs.Whole.{floored, floorPlus, floorLess}
 use Rattle.numbers.proofs.Laws.Whole.{floor-is, floor-size}
 use Rattle.modulate.specs.Step.{stepped}

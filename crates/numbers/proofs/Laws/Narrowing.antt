@@ -13,9 +13,9 @@ use lib.Ieee.Scale.{finite, round-same}
 use lib.Ieee.Positive.{den, den-pos}
 use Rattle.ieee.specs.Notation.{zero₀, one₀}
 use Rattle.ieee.specs.Alike.{plain, signed, Like}
-use Rattle.ieee.specs.Fraction.{plus, less}
+use Rattle.ieee.specs.Fraction.{plus, less, Span}
 use Rattle.ieee.proofs.Laws.Order.{le→cross, between}
-use Rattle.ieee.proofs.Laws.Span.{Span, span-finite, low-finite}
+use Rattle.ieee.proofs.Laws.Span.{span-finite, low-finite}
 use Rattle.ieee.proofs.Laws.Exact.{round-own}
 use Rattle.ieee.proofs.Laws.Round.{round-neg, round-zero, round-number}
 use Rattle.ieee.proofs.Laws.Rounds.{Rounds, at-high, at-deep, rounds-mono}

@@ -18,9 +18,9 @@ use lib.Ieee.Scale.{finite}
 use lib.Ieee.Positive.{den, den-pos}
 use Rattle.ieee.specs.Alike.{plain, signed, Alike}
 use Rattle.ieee.specs.Notation.{one₀}
-use Rattle.ieee.specs.Fraction.{plus, less}
+use Rattle.ieee.specs.Fraction.{plus, less, Val}
 use Rattle.ieee.proofs.Laws.Round.{round-zero}
-use Rattle.ieee.proofs.Laws.Order.{multiple-less, Val, own-val, has-val, vals→le, vals→lt, le→cross, not-lt→le, inside-finite, inside-size, val-same}
+use Rattle.ieee.proofs.Laws.Order.{multiple-less, own-val, has-val, vals→le, vals→lt, le→cross, not-lt→le, inside-finite, inside-size, val-same}
 use Rattle.ieee.proofs.Laws.Rounds.{add-at}
 use Rattle.ieee.proofs.Laws.Held.{fits-parts, on-grid, no-fraction}
 use Rattle.numbers.specs.Whole.{wholeDown, floored, floorPlus, floorLess, far}

@@ -12,8 +12,8 @@ use lib.Ieee.Fits.{mul-fits}
 use lib.Ieee.Scale.{finite}
 use lib.Ieee.Positive.{den, den-pos}
 use Rattle.ieee.specs.Notation.{zero₀, half₀, one₀}
-use Rattle.ieee.specs.Fraction.{plus, less}
-use Rattle.ieee.proofs.Laws.Order.{products, Val, own-val, le→cross, le→vals, le-trans-float, less-none}
+use Rattle.ieee.specs.Fraction.{plus, less, Val}
+use Rattle.ieee.proofs.Laws.Order.{products, own-val, le→cross, le→vals, le-trans-float, less-none}
 use Rattle.ieee.proofs.Laws.Rounds.{sub-at}
 use Rattle.ieee.proofs.Laws.Held.{fits-parts, pow-back, rounds-above}
 use Rattle.ieee.proofs.Laws.Exact.{half-exact}

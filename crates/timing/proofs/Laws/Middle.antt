@@ -13,8 +13,8 @@ use lib.Ieee.Fits.{neg-fits}
 use lib.Ieee.Scale.{finite}
 use lib.Ieee.Positive.{den, den-pos}
 use Rattle.ieee.specs.Notation.{zero₀, half₀, one₀}
-use Rattle.ieee.specs.Fraction.{plus, less}
-use Rattle.ieee.proofs.Laws.Order.{products, Val, own-val, less-none, le→cross, lt→cross, le→vals, le-refl-float, finite-number, between, neg-val}
+use Rattle.ieee.specs.Fraction.{plus, less, Val}
+use Rattle.ieee.proofs.Laws.Order.{products, own-val, less-none, le→cross, lt→cross, le→vals, le-refl-float, finite-number, between, neg-val}
 use Rattle.ieee.proofs.Laws.Rounds.{sub-at}
 use Rattle.ieee.proofs.Laws.Held.{rounds-above}
 use Rattle.ieee.proofs.Laws.Exact.{minus-zero}

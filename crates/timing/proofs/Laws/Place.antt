@@ -10,7 +10,8 @@ use lib.Ieee.{Float, fin, binary64, sub, lt, ofInt, toUnsigned, inUnsigned, inFl
 use lib.Ieee.Back.{unsigned-back}
 use lib.Ieee.Scale.{finite}
 use Rattle.ieee.specs.Notation.{zero₀}
-use Rattle.ieee.proofs.Laws.Order.{Val, plus-some}
+use Rattle.ieee.specs.Fraction.{Val}
+use Rattle.ieee.proofs.Laws.Order.{plus-some}
 use Rattle.ieee.proofs.Laws.Exact.{zero-minus}
 use Rattle.numbers.specs.Whole.{floored, floorPlus, floorLess}
 use Rattle.numbers.proofs.Laws.Whole.{floor-is}
