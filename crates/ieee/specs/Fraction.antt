@@ -61,3 +61,9 @@ pub record Span (lo hi x : Float) : Type 0 where
   pub from : T (le zero₀ lo)
   pub low : T (le lo x)
   pub high : T (le x hi)
+
+-- x is a number, not a NaN
+abbrev pub number : Float → Bool
+number nan = false
+number (inf s) = true
+number (fin s m e) = true

@@ -2,3 +2,4 @@ pub mod Notation
 pub mod Alike
 pub mod Magnitude
 pub mod Fraction
+pub mod Rounding

@@ -39,7 +39,7 @@ fn count_played(
     played
 }
 
-// Plays a line, first with its answer damaged, which has to be seen, and then as it is.
+// Plays a line, first damaged, which has to be seen, and then as it is.
 fn play_line(
     last: Played,
     asked: Asked,
@@ -51,7 +51,8 @@ fn play_line(
     requires { ⌜ SlotGiven (last .slot) ⌝ }
     ensures { λ r. ⌜ SlotGiven (r .slot) ⌝ }
 {
-    count_played(last, asked, replay::damaged(op), line, damaged);
+    let wrong = replay::damaged(op, tally::played(damaged));
+    count_played(last, asked, wrong, line, damaged);
     count_played(last, asked, op, line, tally)
 }
 

@@ -6,6 +6,7 @@ use lib.Dec.{leb}
 use lib.Ieee.{Float, nan, inf, fin, up, down}
 use Rattle.ieee.specs.Notation.{_⊞_, _⊠_, half₀}
 use Rattle.numbers.specs.Whole.{wholeDown}
+use mathlib.Core.Path.{_≡_}
 
 -- ±n modulo 2^32
 abbrev pub wrapped : Bool → ℕ → ℕ
@@ -60,3 +61,8 @@ bitsRange = fin false 1 (pos 14)
 abbrev pub Floored : Bool → ℕ → ℕ → ℕ → Type 0
 Floored false a c n = (n * (2 * c) ≤ 2 * a + c) × (2 * a + c < n * (2 * c) + 2 * c)
 Floored true a c n = (2 * a ≤ n * (2 * c) + c) × (n * (2 * c) < 2 * a + c)
+
+-- r is a - b modulo 2^32
+pub record Wraps (r a b : ℕ) : Type 0 where
+  pub small : r < 2 ^ 32
+  pub same : (r + b) % 2 ^ 32 ≡ a % 2 ^ 32

@@ -25,14 +25,15 @@ fn play(table: &[f32; 4097], op: Operation, line: &[u8], tally: &mut [u64; 16]) 
     }
 }
 
-// Plays a line, and once more with its answer damaged, which has to be seen.
+// Plays a line, and once more damaged, which has to be seen.
 fn play_line(table: &[f32; 4097], line: &[u8], tally: &mut [u64; 16], damaged: &mut [u64; 16]) {
     let Reading::Asks(op) = replay::read_line(line) else {
         counts::malformed(tally, line);
         return;
     };
     play(table, op, line, tally);
-    play(table, replay::damaged(op), line, damaged);
+    let op = replay::damaged(op, tally::played(damaged));
+    play(table, op, line, damaged);
 }
 
 // Plays line after line, up to the end of the input. What is left there after the last whole line

@@ -88,7 +88,7 @@ fn play(
     }
 }
 
-// Plays an operation with its answer damaged, which has to be seen. Nothing else is left of it.
+// Plays a damaged operation, or one with other turns, which has to be seen. Nothing else is left of it.
 fn play_damaged(
     pair: Pair,
     op: Operation,
@@ -101,7 +101,16 @@ fn play_damaged(
 )
     requires { ⌜ Given (pair .first) × Given (pair .second) ⌝ }
 {
-    let op = replay::damaged(op);
+    let turn = tally::played(damaged);
+    let op = turned::altered(op, turn);
+    let first = pair.first;
+    let second = pair.second;
+    let turns = turned::other(pair.turns, turn);
+    let pair = Pair {
+        first: first,
+        second: second,
+        turns: turns,
+    };
     let mut timing = *timing;
     let mut carrier = *carrier;
     let mut input = *input;

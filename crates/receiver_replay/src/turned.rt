@@ -39,6 +39,31 @@ pub(crate) fn next_turns(turns: Turns, op: Operation) -> Turns {
     }
 }
 
+// The operation, damaged at every other turn.
+pub(crate) fn altered(op: Operation, turn: u64) -> Operation {
+    if turn % 2 == 0 {
+        return replay::damaged(op, turn / 2);
+    }
+    op
+}
+
+// The turns, with one more of the samples or of the phase at the turns that leave the operation alone.
+pub(crate) fn other(turns: Turns, turn: u64) -> Turns {
+    if turn % 4 == 1 {
+        return Turns {
+            samples: (turns.samples % 4 + 1) % 4,
+            phase: turns.phase,
+        };
+    }
+    if turn % 4 == 3 {
+        return Turns {
+            samples: turns.samples,
+            phase: (turns.phase % 4 + 1) % 4,
+        };
+    }
+    turns
+}
+
 // The sample after so many quarter turns, each of which makes (re, im) into (-im, re).
 fn turned(z: C32, turns: u64) -> C32 {
     match turns {

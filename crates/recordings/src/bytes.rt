@@ -8,6 +8,13 @@ ghost use Rattle.ieee.specs.Notation.{zero₀};
 ghost use Rattle.recordings.specs.Bytes.{littleEndian, bytesOf};
 ghost use Rattle.recordings.specs.Samples.{floats};
 
+// The smaller of two counts.
+pub(crate) fn least(a: usize, b: usize) -> usize
+    ensures { λ r. ⌜ r ≡ min a b ⌝ }
+{
+    if a < b { a } else { b }
+}
+
 // The number that the first eight bytes spell; where there are fewer, those that are missing are zero.
 pub(crate) fn little_endian(bytes: &[u8]) -> u64
     ensures value { λ r. ⌜ r ≡ littleEndian (take 8 (now (bytes .entry))) ⌝ }
@@ -52,11 +59,4 @@ pub(crate) fn put(text: &mut [u8], k: usize, b: u8)
     if k < text.len() {
         text[k] = b;
     }
-}
-
-// The smaller of two counts.
-pub(crate) fn least(a: usize, b: usize) -> usize
-    ensures { λ r. ⌜ r ≡ min a b ⌝ }
-{
-    if a < b { a } else { b }
 }

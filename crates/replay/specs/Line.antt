@@ -1,5 +1,5 @@
 -- A recorded line: a letter and three words, each after a space, and a line end. Definitions only.
-use Prim.Native.Nat.{ℕ, _+_, _^_, _%_}
+use Prim.Native.Nat.{ℕ}
 use mathlib.Core.Bool.{Bool, _&&_, cond}
 use mathlib.Core.List.{List}
 use lib.Dec.{eqb}
@@ -40,6 +40,3 @@ asked Malformed = record { letter = 0; x = 0; y = 0; answer = 0 }
 -- whether a line has these three words
 abbrev pub has : Operation → ℕ → ℕ → ℕ → Bool
 has op x y z = eqb x (op .x) && (eqb y (op .y) && eqb z (op .answer))
-
-abbrev pub withOtherAnswer : Operation → Operation
-withOtherAnswer op = record { letter = op .letter; x = op .x; y = op .y; answer = (op .answer + 16) % 2 ^ 64 }

@@ -2,7 +2,7 @@
 use crate::hex::Word;
 use crate::hex::read_word;
 ghost use mathlib.Core.Path.{_≡_};
-ghost use Rattle.replay.specs.Line.{asked, asking, readingOf, spaced, withOtherAnswer};
+ghost use Rattle.replay.specs.Line.{asked, asking, readingOf, spaced};
 
 // What a line asks: the function's letter, the words of its arguments and of its answer.
 pub struct Operation {
@@ -82,14 +82,29 @@ pub fn read_operation(line: &[u8]) -> Operation
     }
 }
 
-// The line with another answer: one more in the place of sixteen, where a set-up's word has its number.
-pub fn damaged(op: Operation) -> Operation
-    ensures { λ r. ⌜ r ≡ withOtherAnswer op ⌝ }
+// The word with an amount more, if that is asked.
+fn more(word: u64, amount: u64, asked: bool) -> u64 {
+    if asked {
+        std::num::wrapping_add_u64(word, amount)
+    } else {
+        word
+    }
+}
+
+// The line with one place of its words altered, another one at each turn. In the answer that is the place of
+// sixteen, where a set-up's word has its number, and two of its high half, where two flags stand.
+pub fn damaged(op: Operation, turn: u64) -> Operation
+    ensures { λ r. ⌜ r .letter ≡ op .letter ⌝ }
 {
+    let place = turn % 7;
+    let x = more(op.x, 1, place == 1);
+    let y = more(op.y, 1, place == 3);
+    let answer = more(op.answer, 0x10, place == 0);
+    let answer = more(answer, 0x1_0000_0000, place == 5);
     Operation {
         letter: op.letter,
-        x: op.x,
-        y: op.y,
-        answer: std::num::wrapping_add_u64(op.answer, 16),
+        x: more(x, 0x1_0000_0000, place == 2),
+        y: more(y, 0x1_0000_0000, place == 4),
+        answer: more(answer, 0x2_0000_0000, place == 6),
     }
 }

@@ -14,15 +14,15 @@ pub const MALFORMED: usize = 12;
 
 pub const UNANSWERED: usize = 13;
 
-const LINES: usize = 14;
+const ALL: usize = 14;
 
 const DIFFER: usize = 15;
 
 // So many lines that differ are written.
 const SHOWN: u64 = 20;
 
-// The tally of damaged lines, each of which has to differ. It writes none of them: as many are counted
-// beforehand as are written.
+// The tally of damaged lines. It writes none of them: as many are counted as differing beforehand as are
+// written.
 pub fn of_damaged() -> [u64; 16]
     ensures { λ r. ⌜ r ≡ noneDamaged ⌝ }
 {
@@ -52,7 +52,7 @@ pub fn count(tally: &mut [u64; 16], place: usize, agrees: bool)
     ensures { λ _. ⌜ now (tally .exit) ≡ counted (now (tally .entry)) place agrees ⌝ }
 {
     add(tally, known(place));
-    add(tally, LINES);
+    add(tally, ALL);
     if agrees {
         return;
     }
@@ -76,6 +76,13 @@ pub fn count_line(tally: &mut [u64; 16], place: usize, line: &[u8], agrees: bool
     count(tally, place, agrees);
 }
 
+// How many lines were counted.
+pub fn played(tally: &[u64; 16]) -> u64
+    ensures { λ r. ⌜ r ≡ getD (now (tally .entry)) 14 0 ⌝ }
+{
+    tally[ALL]
+}
+
 // Counts input that goes on after the last line as one answer that differs.
 pub fn too_long(tally: &mut [u64; 16])
     ensures { λ _. ⌜ now (tally .exit) ≡ oneMore (now (tally .entry)) 15 ⌝ }
@@ -97,5 +104,5 @@ pub fn show_end(tally: &[u64; 16], damaged: &[u64; 16]) {
         b"damaged_seen",
         std::num::wrapping_sub_u64(damaged[DIFFER], SHOWN),
     );
-    summary(tally[LINES], tally[DIFFER]);
+    summary(tally[ALL], tally[DIFFER]);
 }

@@ -4,11 +4,12 @@ use mathlib.Core.Bool.{Bool, true, false, cond}
 use lib.Dec.{T}
 use lib.Ieee.{Float, nan, inf, fin, binary32, neg, le, lt}
 use Rattle.ieee.specs.Notation.{zero₀}
+use Rattle.ieee.specs.Fraction.{number}
 use Rattle.ieee.proofs.Laws.Algebra.{neg-neg}
 use Rattle.ieee.proofs.Laws.Test.{yes, no}
 use Rattle.ieee.proofs.Laws.Like.{like-refl, like-sym}
 use Rattle.ieee.proofs.Laws.Compare.{like-lt}
-use Rattle.ieee.proofs.Laws.Order.{number, neg-le, lt→le, le→not-lt, not-lt→le, le-trans-float}
+use Rattle.ieee.proofs.Laws.Order.{neg-le, lt→le, le→not-lt, not-lt→le, le-trans-float}
 use Rattle.numbers.specs.Denormal.{tiny, flushed}
 use Rattle.numbers.specs.Range.{limited}
 use Rattle.numbers.proofs.Laws.Range.{limit-inside}

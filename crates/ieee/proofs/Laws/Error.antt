@@ -17,10 +17,10 @@ use lib.Ieee.Order.{drop, kept}
 use lib.Ieee.Scale.{finite, grid, overflow, round-val}
 use lib.Ieee.Positive.{den}
 use Rattle.ieee.specs.Fraction.{plus, less, Fraction, nothing, Within, own, halves, Val}
+use Rattle.ieee.specs.Rounding.{Rounds, high, deep}
 use Rattle.ieee.proofs.Laws.Test.{Compared, compared}
 use Rattle.ieee.proofs.Laws.Round.{round-neg}
 use Rattle.ieee.proofs.Laws.Order.{products, has-val, neg-val}
-use Rattle.ieee.proofs.Laws.Rounds.{Rounds, high, deep}
 use Rattle.ieee.proofs.Laws.Apart.{within-coarser, within-finer}
 
 -- ---- the nearest whole number lies within a half

@@ -19,11 +19,12 @@ use lib.Ieee.Positive.{den, den-pos}
 use Rattle.ieee.specs.Notation.{zero₀, half₀, one₀}
 use Rattle.ieee.specs.Alike.{Alike}
 use Rattle.ieee.specs.Fraction.{plus, less, Val, Exact}
+use Rattle.ieee.specs.Rounding.{Rounds, high, deep}
 use Rattle.ieee.proofs.Laws.Round.{round-zero}
 use Rattle.ieee.proofs.Laws.Like.{add-fin, mul-fin}
 use Rattle.ieee.proofs.Laws.Test.{order}
 use Rattle.ieee.proofs.Laws.Order.{has-val, val-same, one-part, between}
-use Rattle.ieee.proofs.Laws.Rounds.{Rounds, high, deep, rounds-same, mul-rounds}
+use Rattle.ieee.proofs.Laws.Rounds.{rounds-same, mul-rounds}
 use Rattle.ieee.proofs.Laws.Held.{fits-parts, on-grid, rounds-above, rounds-below}
 use Rattle.ieee.proofs.Laws.Unique.{le-both, value-unique}
 

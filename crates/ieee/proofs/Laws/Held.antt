@@ -14,8 +14,9 @@ use lib.Ieee.Exact.{HasValue, round-exact}
 use lib.Ieee.Scale.{finite}
 use lib.Ieee.Positive.{den, den-pos}
 use Rattle.ieee.specs.Fraction.{plus, less, Val}
+use Rattle.ieee.specs.Rounding.{Rounds}
 use Rattle.ieee.proofs.Laws.Order.{own-val, has-val, ineq, vals→le, le-trans-float}
-use Rattle.ieee.proofs.Laws.Rounds.{Rounds, at-high, at-deep, rounds-mono}
+use Rattle.ieee.proofs.Laws.Rounds.{at-high, at-deep, rounds-mono}
 
 -- ---- a value that the format holds rounds to itself
 -- what `fits` says of a finite value

@@ -5,9 +5,10 @@ use Prim.Native.Nat.{ℕ, _-_}
 use lib.Dec.{T}
 use lib.Ieee.{Float, nan, inf, fin, Format, round, add, mul, isNan}
 use lib.Ieee.Scale.{finite}
+use Rattle.ieee.specs.Fraction.{number}
+use Rattle.ieee.specs.Rounding.{Rounds, high, deep}
 use Rattle.ieee.proofs.Laws.Round.{round-number}
-use Rattle.ieee.proofs.Laws.Order.{number}
-use Rattle.ieee.proofs.Laws.Rounds.{Rounds, high, deep, add-rounds, mul-rounds}
+use Rattle.ieee.proofs.Laws.Rounds.{add-rounds, mul-rounds}
 
 pub not-nan→number : (x : Float) → T (not (isNan x)) → T (number x)
 unfolding isNan

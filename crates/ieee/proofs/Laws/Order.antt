@@ -15,7 +15,7 @@ use lib.Ieee.Exact.{HasValue}
 use lib.Ieee.Scale.{finite}
 use lib.Ieee.Positive.{den, den-pos}
 use Rattle.ieee.specs.Notation.{zero₀}
-use Rattle.ieee.specs.Fraction.{plus, less, Val}
+use Rattle.ieee.specs.Fraction.{plus, less, Val, number}
 use Rattle.ieee.proofs.Laws.Test.{or-split, or-left, or-right}
 use Rattle.ieee.proofs.Laws.Compare.{eq-swap}
 
@@ -114,11 +114,6 @@ cross→lt (fin true m e) (fin false n d) p q h = lt→ltb 0 (m * up e * down d 
 cross→lt (fin true m e) (fin true n d) p q h = lt→ltb (n * up d * down e) (m * up e * down d) (omega arith)
 
 -- where x < y fails, and neither is a NaN, y ≤ x
-abbrev pub number : Float → Bool
-number nan = false
-number (inf s) = true
-number (fin s m e) = true
-
 pub not-lt→le : (x y : Float) → T (number x) → T (number y) → T (not (lt x y)) → T (le y x)
 not-lt→le nan y p q h = absurd p
 not-lt→le (inf s) nan p q h = absurd q

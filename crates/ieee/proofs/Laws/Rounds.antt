@@ -13,6 +13,7 @@ use lib.Ieee.Scale.{finite, round-same}
 use lib.Ieee.Bits.{is-false}
 use lib.Ieee.Positive.{first-pos, den, den-pos}
 use Rattle.ieee.specs.Fraction.{plus, less, Val}
+use Rattle.ieee.specs.Rounding.{Rounds, high, deep}
 use Rattle.ieee.proofs.Laws.Round.{NonNeg, round-neg, round-zero, round-nonneg}
 use Rattle.ieee.proofs.Laws.Order.{products, cross→le, neg-val, neg-le}
 
@@ -30,11 +31,6 @@ opposite (fin false m e) (inf true) p q = absurd q
 opposite (fin false m e) (inf false) p q = unfold le in tt
 opposite (fin false m e) (fin true n d) p q = absurd q
 opposite (fin false m e) (fin false n d) p q = cross→le (fin true m e) (fin false n d) tt tt (omega arith)
-
--- ---- z is (p - n) / c, rounded once. A zero may have either sign.
-pub data Rounds (f : Format) (z : Float) (p n c : ℕ) : Type 0 where
-  high : n ≤ p → z ≡ round f false (p - n) c → Rounds f z p n c
-  deep : p ≤ n → z ≡ round f true (n - p) c → Rounds f z p n c
 
 zeros : (f : Format) (c c' : ℕ) → 0 < c → 0 < c' → T (le (round f false 0 c) (round f true 0 c'))
 zeros f c c' C C' = rw (round-zero f false c C, round-zero f true c' C') (cross→le (fin false 0 (pos 0)) (fin true 0 (pos 0)) tt tt (omega arith))

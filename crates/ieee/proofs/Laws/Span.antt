@@ -9,8 +9,9 @@ use lib.Ieee.Scale.{finite}
 use lib.Ieee.Positive.{den, den-pos}
 use Rattle.ieee.specs.Notation.{zero₀}
 use Rattle.ieee.specs.Fraction.{less, Span}
+use Rattle.ieee.specs.Rounding.{Rounds}
 use Rattle.ieee.proofs.Laws.Order.{less-none, plus-some, le-trans-float, le-refl-float, not-le→lt, not-below, finite-number, between}
-use Rattle.ieee.proofs.Laws.Rounds.{Rounds, add-rounds, div-rounds}
+use Rattle.ieee.proofs.Laws.Rounds.{add-rounds, div-rounds}
 use Rattle.ieee.proofs.Laws.Held.{rounds-above}
 use Rattle.ieee.proofs.Laws.Mono.{add-mono, mul-mono, mul-nonneg, div-mono}
 

@@ -8,10 +8,11 @@ use lib.Pow.{pow-pos, pow-add}
 use lib.Ieee.{Float, binary32, round, add, sub, ofBits}
 use lib.Ieee.Exact.{HasValue}
 use Rattle.ieee.specs.Notation.{one₀}
+use Rattle.ieee.specs.Rounding.{Rounds, high, deep}
 use Rattle.ieee.proofs.Laws.Bits.{normal-value}
 use Rattle.ieee.proofs.Laws.Exact.{parts-exact, same-value}
 use Rattle.ieee.proofs.Laws.Order.{has-val}
-use Rattle.ieee.proofs.Laws.Rounds.{Rounds, high, deep, sub-at}
+use Rattle.ieee.proofs.Laws.Rounds.{sub-at}
 use Rattle.mix.specs.Oscillator.{fraction}
 
 -- 1 + n / 2^20

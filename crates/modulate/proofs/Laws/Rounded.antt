@@ -1,7 +1,7 @@
 -- `rounded` is floor(±a / c + 1/2), and `phaseStep` of a value below 2^31 in size is that floor modulo 2^32, whichever fraction the value is written as. Assumes nothing.
 use mathlib.Core.Path.{_≡_, sym, ap}
 use mathlib.Core.Logic.{inl, inr}
-use Prim.Native.Nat.{ℕ, _+_, _-_, _*_, _%_, _^_, _<_}
+use Prim.Native.Nat.{ℕ, _+_, _-_, _*_, _^_, _<_}
 use native.Mathlib.Nat.{mul-le-mul-right, mul-lt-mul-of-pos-right, le-of-mul-le-mul-right, lt-of-mul-lt-mul-right, div-mul-le-self, lt-div-mul-add, div-eq-of-lt, div-eq-of-lt-le}
 use native.Mathlib.Omega.{arith}
 use mathlib.Core.Bool.{Bool, true, false, cond}
@@ -10,7 +10,7 @@ use lib.Ieee.Fits.{down-pos}
 use lib.Ieee.Exact.{HasValue}
 use borrow.Author.Tests.{lt-leb}
 use Rattle.ieee.proofs.Laws.Test.{order}
-use Rattle.modulate.specs.Step.{wrapped, halfMore, rounded, phaseStep, Floored}
+use Rattle.modulate.specs.Step.{wrapped, halfMore, rounded, phaseStep, Floored, Wraps}
 
 pub rounded-floor : (s : Bool) (a c : ℕ) → 0 < c → Floored s a c (rounded s a c)
 rounded-floor false a c C =
@@ -53,11 +53,6 @@ rounded-small false a c h = rounded-unique false a c 0 (omega arith, omega arith
 rounded-small true a c h = rounded-unique true a c 0 (omega arith, omega arith)
 
 -- ---- `wrapped` is the one number below 2^32 that is ±k but for a multiple of 2^32
--- r is a - b modulo 2^32
-pub record Wraps (r a b : ℕ) : Type 0 where
-  pub small : r < 2 ^ 32
-  pub same : (r + b) % 2 ^ 32 ≡ a % 2 ^ 32
-
 pub wrapped-is : (s : Bool) (k : ℕ) → Wraps (wrapped s k) (cond s 0 k) (cond s k 0)
 wrapped-is false k = record { small = omega arith; same = omega arith }
 wrapped-is true k = record { small = omega arith; same = omega arith }

@@ -15,15 +15,15 @@ use lib.Ieee.Scale.{finite}
 use lib.Ieee.Positive.{den, den-pos}
 use Rattle.ieee.specs.Notation.{zero₀, half₀}
 use Rattle.ieee.specs.Fraction.{plus, less, Val, Exact}
+use Rattle.ieee.specs.Rounding.{Rounds, high, deep}
 use Rattle.ieee.proofs.Laws.Test.{order}
 use Rattle.ieee.proofs.Laws.Order.{own-val, has-val, cross→le, le→vals, between}
-use Rattle.ieee.proofs.Laws.Rounds.{Rounds, high, deep, rounds-same, mul-at, add-at}
+use Rattle.ieee.proofs.Laws.Rounds.{rounds-same, mul-at, add-at}
 use Rattle.ieee.proofs.Laws.Held.{fits-parts, pow-back, on-grid, rounds-above, rounds-below}
 use Rattle.ieee.proofs.Laws.Exact.{rounds-one-sided, rounds-exact, parts-exact}
 use Rattle.ieee.proofs.Laws.Mono.{add-mono, mul-mono-left}
 use Rattle.ieee.proofs.Laws.Even.{round-even}
-use Rattle.modulate.specs.Step.{stepOf, stepped, phaseStep, turn₀}
-use Rattle.modulate.proofs.Laws.Rounded.{Wraps}
+use Rattle.modulate.specs.Step.{stepOf, stepped, phaseStep, turn₀, Wraps}
 use Rattle.modulate.proofs.Laws.Stepped.{Floor, Sized, end, floor-same, stepped-at, stepped-top, stepped-bottom, phase-step-floor, phase-step-end}
 
 -- ---- v × 2^32, of the size m × 2^e × 2^32, is a whole number m × 2^i or a fraction m / 2^l

@@ -16,8 +16,8 @@ use Rattle.ieee.specs.Fraction.{plus, less, Val}
 use Rattle.ieee.proofs.Laws.Order.{own-val, ineq, ineq-lt, le→cross}
 use Rattle.numbers.specs.Whole.{wholeDown, floorPlus, floorLess}
 use Rattle.numbers.proofs.Laws.Whole.{floor-under, floor-next}
-use Rattle.modulate.specs.Step.{wrapped, rounded, castEnd, stepped, phaseStep}
-use Rattle.modulate.proofs.Laws.Rounded.{rounded-floor, Wraps, wrapped-is, wrapped-unique}
+use Rattle.modulate.specs.Step.{wrapped, rounded, castEnd, stepped, phaseStep, Wraps}
+use Rattle.modulate.proofs.Laws.Rounded.{rounded-floor, wrapped-is, wrapped-unique}
 
 -- a - b is the greatest whole number not above (p - n) / c
 pub record Floor (p n c a b : ℕ) : Type 0 where

@@ -16,8 +16,7 @@ use Rattle.ieee.specs.Fraction.{plus, less, Val}
 use Rattle.ieee.proofs.Laws.Order.{multiple-less, neg-val, vals→lt, lt→vals, le→vals, not-lt→le, not-le→lt, above-number, finite-number, inside-finite, inside-size}
 use Rattle.numbers.specs.Whole.{floored, floorPlus, floorLess}
 use Rattle.numbers.proofs.Laws.Whole.{floor-is, floor-size}
-use Rattle.modulate.specs.Step.{stepped}
-use Rattle.modulate.proofs.Laws.Rounded.{Wraps}
+use Rattle.modulate.specs.Step.{stepped, Wraps}
 use Rattle.modulate.proofs.Laws.Stepped.{Sized, end, stepped-own, stepped-bottom}
 
 -- ---- a whole number a - b from 0 up to 2^64: what the cast to a `u64` asks and gives

@@ -14,10 +14,11 @@ use lib.Ieee.Scale.{finite}
 use lib.Ieee.Positive.{den, den-pos}
 use Rattle.ieee.specs.Notation.{zero₀, one₀}
 use Rattle.ieee.specs.Fraction.{plus, less, Val}
+use Rattle.ieee.specs.Rounding.{Rounds}
 use Rattle.ieee.proofs.Laws.Compare.{eq-swap}
 use Rattle.ieee.proofs.Laws.Order.{own-val, vals→le, le→vals, lt→vals, le→cross, lt→cross, not-lt→le, finite-number, between, neg-val, les→eq, eq→cross, val-same, inside-finite}
 use Rattle.ieee.proofs.Laws.Round.{round-zero}
-use Rattle.ieee.proofs.Laws.Rounds.{Rounds, add-at}
+use Rattle.ieee.proofs.Laws.Rounds.{add-at}
 use Rattle.ieee.proofs.Laws.Held.{rounds-above, rounds-below, no-fraction}
 use Rattle.numbers.specs.Whole.{floored, floorPlus, floorLess, far, Beside, same, under, over}
 use Rattle.ieee.proofs.Laws.Test.{order}

@@ -11,8 +11,8 @@ use Rattle.ieee.specs.Alike.{Like}
 use Rattle.ieee.specs.Notation.{zero₀}
 use Rattle.ieee.specs.Magnitude.{magnitude}
 use Rattle.numbers.specs.Denormal.{tiny, flushed}
+use Rattle.ieee.specs.Fraction.{number}
 use Rattle.ieee.proofs.Laws.Like.{like-refl, like-zero}
-use Rattle.ieee.proofs.Laws.Order.{number}
 use Rattle.ieee.proofs.Laws.Compare.{like-lt, like-cond}
 use Rattle.ieee.proofs.Laws.Magnitude.{magnitude-lt, like-magnitude}
 

@@ -14,11 +14,12 @@ use lib.Ieee.Positive.{den, den-pos}
 use Rattle.ieee.specs.Notation.{zero₀, one₀}
 use Rattle.ieee.specs.Alike.{plain, signed, Like}
 use Rattle.ieee.specs.Fraction.{plus, less, Span}
+use Rattle.ieee.specs.Rounding.{Rounds}
 use Rattle.ieee.proofs.Laws.Order.{le→cross, between}
 use Rattle.ieee.proofs.Laws.Span.{span-finite, low-finite}
 use Rattle.ieee.proofs.Laws.Exact.{round-own}
 use Rattle.ieee.proofs.Laws.Round.{round-neg, round-zero, round-number}
-use Rattle.ieee.proofs.Laws.Rounds.{Rounds, at-high, at-deep, rounds-mono}
+use Rattle.ieee.proofs.Laws.Rounds.{at-high, at-deep, rounds-mono}
 use Rattle.numbers.specs.Narrowing.{narrowed}
 use Rattle.ieee.proofs.Laws.Bits.{withSign}
 

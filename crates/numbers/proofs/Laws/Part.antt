@@ -16,8 +16,9 @@ use lib.Ieee.Scale.{finite}
 use lib.Ieee.Positive.{den, den-pos}
 use Rattle.ieee.specs.Notation.{zero₀, one₀}
 use Rattle.ieee.specs.Fraction.{plus, less, Val, Exact}
+use Rattle.ieee.specs.Rounding.{Rounds}
 use Rattle.ieee.proofs.Laws.Order.{less-none, own-val, vals→lt}
-use Rattle.ieee.proofs.Laws.Rounds.{Rounds, rounds-same, sub-at}
+use Rattle.ieee.proofs.Laws.Rounds.{rounds-same, sub-at}
 use Rattle.ieee.proofs.Laws.Held.{fits-parts, on-grid, rounds-above, rounds-below}
 use Rattle.ieee.proofs.Laws.Exact.{rounds-one-sided, zero-exact}
 use Rattle.numbers.specs.Whole.{floored, floorPlus, floorLess}

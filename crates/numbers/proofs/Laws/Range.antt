@@ -12,11 +12,11 @@ use lib.Ieee.Scale.{finite}
 use lib.Ieee.Positive.{den, den-pos}
 use Rattle.ieee.specs.Alike.{Alike}
 use Rattle.ieee.specs.Notation.{zero₀}
-use Rattle.ieee.specs.Fraction.{plus, less, Val, Exact}
+use Rattle.ieee.specs.Fraction.{plus, less, Val, Exact, number}
 use Rattle.ieee.proofs.Laws.Test.{yes}
 use Rattle.ieee.proofs.Laws.Like.{like-neg}
 use Rattle.ieee.proofs.Laws.Compare.{like-lt, like-cond}
-use Rattle.ieee.proofs.Laws.Order.{lt→le, le-trans-float, minus-le, le→not-lt, own-val, vals→le, number, finite-number, not-lt→le, le-refl-float, neg-number, neg-finite, between, les→eq}
+use Rattle.ieee.proofs.Laws.Order.{lt→le, le-trans-float, minus-le, le→not-lt, own-val, vals→le, finite-number, not-lt→le, le-refl-float, neg-number, neg-finite, between, les→eq}
 use Rattle.ieee.proofs.Laws.Rounds.{rounds-same, sub-at}
 use Rattle.ieee.proofs.Laws.Exact.{rounds-exact, zero-exact}
 use Rattle.numbers.specs.Range.{limited, greater, smaller}
