@@ -1,8 +1,7 @@
 // A recording received block by block, in as many calls as it takes.
 use crate::cuts::Cut;
 use receiver::Receiver;
-use values::Answer;
-use values::Progress;
+use values::counts_of;
 ghost use Prim.Native.Nat.{_≤_};
 ghost use Rattle.receiver.specs.Record.{Given};
 
@@ -14,25 +13,6 @@ pub struct Received {
     pub handed: usize,
     pub consumed: usize,
     pub produced: usize,
-}
-
-// The number of a refusal, or 0.
-fn number(answer: Answer) -> u32 {
-    match answer {
-        Answer::Done(_) => 0,
-        Answer::Refused(why) => why.number(),
-    }
-}
-
-// The counts of a call, none of a refused one.
-fn counts(answer: Answer) -> Progress {
-    match answer {
-        Answer::Done(p) => p,
-        Answer::Refused(_) => Progress {
-            consumed: 0,
-            produced: 0,
-        },
-    }
 }
 
 // How many f32 so many samples have, where there is room for no more than `room` f32.
@@ -73,14 +53,14 @@ fn next(s: Received, cut: Cut, input: &[f32], strobes: &mut [f32], output: &mut 
         &mut output[from..to],
     );
     let answer = ran.answer;
-    let p = counts(answer);
+    let c = counts_of(answer);
     let receiver = ran.receiver;
     Received {
         receiver: receiver,
-        number: number(answer),
+        number: c.number,
         handed: end,
-        consumed: std::num::wrapping_add_usize(s.consumed, p.consumed),
-        produced: std::num::wrapping_add_usize(s.produced, p.produced),
+        consumed: std::num::wrapping_add_usize(s.consumed, c.consumed),
+        produced: std::num::wrapping_add_usize(s.produced, c.produced),
     }
 }
 
