@@ -31,6 +31,7 @@ use replay::Operation;
 use replay::buffers;
 use replay::tally;
 ghost use Rattle.carrier.specs.State.{Given};
+ghost use Rattle.replay.specs.Tally.{Tallied};
 
 // Plays an operation, and counts it.
 fn play(
@@ -43,7 +44,8 @@ fn play(
     tally: &mut [u64; 16],
 ) -> CostasState
     requires { ⌜ Given s ⌝ }
-    ensures { λ r. ⌜ Given r ⌝ }
+    ensures given { λ r. ⌜ Given r ⌝ }
+    ensures tallied { λ _. ⌜ Tallied 1 (now (tally .entry)) (now (tally .exit)) ⌝ }
 {
     let mut agrees = buffers::play(op, values, input, output);
     let after = state::play(s, op, values, input, output, &mut agrees);
@@ -80,28 +82,30 @@ fn play_line(
     damaged: &mut [u64; 16],
 ) -> CostasState
     requires { ⌜ Given s ⌝ }
-    ensures { λ r. ⌜ Given r ⌝ }
+    ensures given { λ r. ⌜ Given r ⌝ }
+    ensures tallied { λ _. ⌜ Tallied 1 (now (tally .entry)) (now (tally .exit)) ⌝ }
 {
     let op = replay::read_operation(line);
     play_damaged(s, op, values, input, output, damaged);
     play(s, op, line, values, input, output, tally)
 }
 
-// Plays line after line, up to the end of the input. What is left there after the last whole line
-// counts as a line too.
-fn play_lines(first: CostasState, tally: &mut [u64; 16], damaged: &mut [u64; 16])
+// Plays line after line, up to the end of the input, and says how many. What is left there after the last
+// whole line counts as a line too.
+fn play_lines(first: CostasState, tally: &mut [u64; 16], damaged: &mut [u64; 16]) -> u64
     requires { ⌜ Given first ⌝ }
+    ensures { λ r. ⌜ Tallied r (now (tally .entry)) (now (tally .exit)) ⌝ }
 {
     let mut values = [0u64; 5];
     let mut input = [0.0f32; 192];
     let mut output = [0.0f32; 192];
     let mut s = first;
-    let mut left = LINES;
-    while left > 0 {
+    let mut heard = 0;
+    while heard < LINES {
         let mut line = [0u8; 53];
         let n = io::read_full(STDIN_FILENO, &mut line);
         if n == 0 {
-            return;
+            return heard;
         }
         s = play_line(
             s,
@@ -112,18 +116,20 @@ fn play_lines(first: CostasState, tally: &mut [u64; 16], damaged: &mut [u64; 16]
             tally,
             damaged,
         );
-        left -= 1;
+        heard += 1;
     }
-    tally::too_long(tally);
+    heard
 }
 
 // Some state is there before the first line sets up its own.
 fn main() {
     let mut tally = [0; 16];
     let mut damaged = tally::of_damaged();
+    let mut lines = 0;
     match carrier::set_up(CostasConstellation::Bpsk, 0.01, 0.7, 0.1) {
-        SetUp::Ready(s) => play_lines(s, &mut tally, &mut damaged),
+        SetUp::Ready(s) => lines = play_lines(s, &mut tally, &mut damaged),
         SetUp::Refused(_) => {}
     }
+    tally::too_long(&mut tally, lines);
     counts::show(&tally, &damaged);
 }

@@ -22,6 +22,7 @@ use replay::LINES;
 use replay::Operation;
 use replay::tally;
 ghost use Rattle.library_replay.specs.Slot.{SlotGiven};
+ghost use Rattle.replay.specs.Tally.{Tallied};
 
 // Plays an operation on what the last one left, and counts it.
 fn count_played(
@@ -32,7 +33,8 @@ fn count_played(
     tally: &mut [u64; 16],
 ) -> Played
     requires { ⌜ SlotGiven (last .slot) ⌝ }
-    ensures { λ r. ⌜ SlotGiven (r .slot) ⌝ }
+    ensures given { λ r. ⌜ SlotGiven (r .slot) ⌝ }
+    ensures tallied { λ _. ⌜ Tallied 1 (now (tally .entry)) (now (tally .exit)) ⌝ }
 {
     let played = play::play(last, asked, op);
     tally::count_line(tally, counts::place(op.letter), line, played.agrees);
@@ -49,36 +51,40 @@ fn play_line(
     damaged: &mut [u64; 16],
 ) -> Played
     requires { ⌜ SlotGiven (last .slot) ⌝ }
-    ensures { λ r. ⌜ SlotGiven (r .slot) ⌝ }
+    ensures given { λ r. ⌜ SlotGiven (r .slot) ⌝ }
+    ensures tallied { λ _. ⌜ Tallied 1 (now (tally .entry)) (now (tally .exit)) ⌝ }
 {
     let wrong = replay::damaged(op, tally::played(damaged));
     count_played(last, asked, wrong, line, damaged);
     count_played(last, asked, op, line, tally)
 }
 
-// Plays line after line, up to the end of the input. What is left there after the last whole line
-// counts as a line too.
-fn play_lines(tally: &mut [u64; 16], damaged: &mut [u64; 16]) {
+// Plays line after line, up to the end of the input, and says how many. What is left there after the last
+// whole line counts as a line too.
+fn play_lines(tally: &mut [u64; 16], damaged: &mut [u64; 16]) -> u64
+    ensures { λ r. ⌜ Tallied r (now (tally .entry)) (now (tally .exit)) ⌝ }
+{
     let mut lines = asked::nothing();
     let mut played = play::start();
-    let mut left = LINES;
-    while left > 0 {
+    let mut heard = 0;
+    while heard < LINES {
         let mut line = [0u8; 53];
         let n = io::read_full(STDIN_FILENO, &mut line);
         if n == 0 {
-            return;
+            return heard;
         }
         let op = replay::read_operation(&line[..n]);
         lines = asked::note(lines, op);
         played = play_line(played, lines, op, &line[..n], tally, damaged);
-        left -= 1;
+        heard += 1;
     }
-    tally::too_long(tally);
+    heard
 }
 
 fn main() {
     let mut tally = [0; 16];
     let mut damaged = tally::of_damaged();
-    play_lines(&mut tally, &mut damaged);
+    let lines = play_lines(&mut tally, &mut damaged);
+    tally::too_long(&mut tally, lines);
     counts::show(&tally, &damaged);
 }

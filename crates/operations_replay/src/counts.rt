@@ -1,6 +1,7 @@
 // The tally of the lines that were played: where each kind is counted, and what is written of it.
 use replay::tally;
 use replay::tally::show_at;
+ghost use Rattle.replay.specs.Tally.{Tallied};
 
 // The letter's place in the tally.
 fn place(letter: u8) -> usize {
@@ -22,12 +23,16 @@ fn place(letter: u8) -> usize {
 }
 
 // Counts a line at its letter's place.
-pub fn agrees(tally: &mut [u64; 16], letter: u8) {
+pub(crate) fn agrees(tally: &mut [u64; 16], letter: u8)
+    ensures { λ _. ⌜ Tallied 1 (now (tally .entry)) (now (tally .exit)) ⌝ }
+{
     tally::count(tally, place(letter), true);
 }
 
 // Counts a line whose recorded answer is not the computed one, and shows the first 20 of them.
-pub fn differs(tally: &mut [u64; 16], letter: u8, line: &[u8], computed: u64) {
+pub(crate) fn differs(tally: &mut [u64; 16], letter: u8, line: &[u8], computed: u64)
+    ensures { λ _. ⌜ Tallied 1 (now (tally .entry)) (now (tally .exit)) ⌝ }
+{
     if tally::shows_more(tally) {
         replay::differs(line, computed);
     }
@@ -35,7 +40,9 @@ pub fn differs(tally: &mut [u64; 16], letter: u8, line: &[u8], computed: u64) {
 }
 
 // Counts a line that is not an operation as one that differs.
-pub fn malformed(tally: &mut [u64; 16], line: &[u8]) {
+pub(crate) fn malformed(tally: &mut [u64; 16], line: &[u8])
+    ensures { λ _. ⌜ Tallied 1 (now (tally .entry)) (now (tally .exit)) ⌝ }
+{
     if tally::shows_more(tally) {
         replay::malformed(line);
     }
@@ -55,7 +62,7 @@ fn show_numbers(tally: &[u64; 16]) {
 }
 
 // Writes the counts.
-pub fn show(tally: &[u64; 16], damaged: &[u64; 16]) {
+pub(crate) fn show(tally: &[u64; 16], damaged: &[u64; 16]) {
     show_numbers(tally);
     show_at(tally, 9, b"interp_f32_pair");
     show_at(tally, 10, b"phase_step_f32");

@@ -15,9 +15,12 @@ use replay::LINES;
 use replay::Operation;
 use replay::Reading;
 use replay::tally;
+ghost use Rattle.replay.specs.Tally.{Tallied};
 
 // Plays an operation, and counts it.
-fn play(table: &[f32; 4097], op: Operation, line: &[u8], tally: &mut [u64; 16]) {
+fn play(table: &[f32; 4097], op: Operation, line: &[u8], tally: &mut [u64; 16])
+    ensures { λ _. ⌜ Tallied 1 (now (tally .entry)) (now (tally .exit)) ⌝ }
+{
     match judge::judge(table, op) {
         Verdict::Agrees => counts::agrees(tally, op.letter),
         Verdict::Differs(computed) => counts::differs(tally, op.letter, line, computed),
@@ -26,7 +29,9 @@ fn play(table: &[f32; 4097], op: Operation, line: &[u8], tally: &mut [u64; 16]) 
 }
 
 // Plays a line, and once more damaged, which has to be seen.
-fn play_line(table: &[f32; 4097], line: &[u8], tally: &mut [u64; 16], damaged: &mut [u64; 16]) {
+fn play_line(table: &[f32; 4097], line: &[u8], tally: &mut [u64; 16], damaged: &mut [u64; 16])
+    ensures { λ _. ⌜ Tallied 1 (now (tally .entry)) (now (tally .exit)) ⌝ }
+{
     let Reading::Asks(op) = replay::read_line(line) else {
         counts::malformed(tally, line);
         return;
@@ -36,20 +41,22 @@ fn play_line(table: &[f32; 4097], line: &[u8], tally: &mut [u64; 16], damaged: &
     play(table, op, line, damaged);
 }
 
-// Plays line after line, up to the end of the input. What is left there after the last whole line
-// counts as a line too.
-fn play_lines(table: &[f32; 4097], tally: &mut [u64; 16], damaged: &mut [u64; 16]) {
-    let mut left = LINES;
-    while left > 0 {
+// Plays line after line, up to the end of the input, and says how many. What is left there after the last
+// whole line counts as a line too.
+fn play_lines(table: &[f32; 4097], tally: &mut [u64; 16], damaged: &mut [u64; 16]) -> u64
+    ensures { λ r. ⌜ Tallied r (now (tally .entry)) (now (tally .exit)) ⌝ }
+{
+    let mut heard = 0;
+    while heard < LINES {
         let mut line = [0u8; 53];
         let n = io::read_full(STDIN_FILENO, &mut line);
         if n == 0 {
-            return;
+            return heard;
         }
         play_line(table, &line[..n], tally, damaged);
-        left -= 1;
+        heard += 1;
     }
-    tally::too_long(tally);
+    heard
 }
 
 // The table is taken once, and lent from here on.
@@ -57,6 +64,7 @@ fn main() {
     let table = tables::cos_f32_table();
     let mut tally = [0; 16];
     let mut damaged = tally::of_damaged();
-    play_lines(&table, &mut tally, &mut damaged);
+    let lines = play_lines(&table, &mut tally, &mut damaged);
+    tally::too_long(&mut tally, lines);
     counts::show(&tally, &damaged);
 }

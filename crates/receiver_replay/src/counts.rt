@@ -1,6 +1,7 @@
 // The tally of the lines that were played: where each kind is counted, and what is written of it.
 use replay::tally;
 use replay::tally::show_at;
+ghost use Rattle.replay.specs.Tally.{Tallied};
 
 // The place of the runs that were compared with turned ones.
 const TURNED: usize = 4;
@@ -23,7 +24,9 @@ fn place(letter: u8) -> usize {
 }
 
 // Counts a line, and a run once more for the second receiver.
-pub(crate) fn count(tally: &mut [u64; 16], line: &[u8], letter: u8, agrees: bool, turned: bool) {
+pub(crate) fn count(tally: &mut [u64; 16], line: &[u8], letter: u8, agrees: bool, turned: bool)
+    ensures { λ _. ⌜ Tallied 1 (now (tally .entry)) (now (tally .exit)) ⌝ }
+{
     tally::count_line(tally, place(letter), line, agrees);
     if letter == b'r' {
         tally::count_line(tally, TURNED, line, turned);

@@ -50,6 +50,7 @@ use replay::tally;
 use turned::Turns;
 use turned::next_turns;
 ghost use Rattle.receiver.specs.Record.{Given};
+ghost use Rattle.replay.specs.Tally.{Tallied};
 
 // The receiver of the lines, the turned one beside it, and by how much that is turned.
 struct Pair {
@@ -71,7 +72,8 @@ fn play(
     tally: &mut [u64; 16],
 ) -> Pair
     requires { ⌜ Given (pair .first) × Given (pair .second) ⌝ }
-    ensures { λ r. ⌜ Given (r .first) × Given (r .second) ⌝ }
+    ensures given { λ r. ⌜ Given (r .first) × Given (r .second) ⌝ }
+    ensures tallied { λ _. ⌜ Tallied 1 (now (tally .entry)) (now (tally .exit)) ⌝ }
 {
     let mut agrees = workspace::play(op, timing, carrier, input, strobes, output);
     let r = pair.first;
@@ -142,7 +144,8 @@ fn play_line(
     damaged: &mut [u64; 16],
 ) -> Pair
     requires { ⌜ Given (pair .first) × Given (pair .second) ⌝ }
-    ensures { λ r. ⌜ Given (r .first) × Given (r .second) ⌝ }
+    ensures given { λ r. ⌜ Given (r .first) × Given (r .second) ⌝ }
+    ensures tallied { λ _. ⌜ Tallied 1 (now (tally .entry)) (now (tally .exit)) ⌝ }
 {
     let op = replay::read_operation(line);
     play_damaged(pair, op, timing, carrier, input, strobes, output, damaged);
@@ -159,10 +162,11 @@ fn play_line(
     )
 }
 
-// Plays line after line, up to the end of the input. What is left there after the last whole line
-// counts as a line too.
-fn play_lines(r: Receiver, tally: &mut [u64; 16], damaged: &mut [u64; 16])
+// Plays line after line, up to the end of the input, and says how many. What is left there after the last
+// whole line counts as a line too.
+fn play_lines(r: Receiver, tally: &mut [u64; 16], damaged: &mut [u64; 16]) -> u64
     requires { ⌜ Given r ⌝ }
+    ensures { λ n. ⌜ Tallied n (now (tally .entry)) (now (tally .exit)) ⌝ }
 {
     let mut timing = [0u64; 5];
     let mut carrier = [0u64; 5];
@@ -174,12 +178,12 @@ fn play_lines(r: Receiver, tally: &mut [u64; 16], damaged: &mut [u64; 16])
         second: r,
         turns: turned::none(),
     };
-    let mut left = LINES;
-    while left > 0 {
+    let mut heard = 0;
+    while heard < LINES {
         let mut line = [0u8; 53];
         let n = io::read_full(STDIN_FILENO, &mut line);
         if n == 0 {
-            return;
+            return heard;
         }
         pair = play_line(
             pair,
@@ -192,18 +196,20 @@ fn play_lines(r: Receiver, tally: &mut [u64; 16], damaged: &mut [u64; 16])
             tally,
             damaged,
         );
-        left -= 1;
+        heard += 1;
     }
-    tally::too_long(tally);
+    heard
 }
 
 // Some receiver is there before the first line sets up its own.
 fn main() {
     let mut tally = [0; 16];
     let mut damaged = tally::of_damaged();
+    let mut lines = 0;
     match set_up::some() {
-        SetUp::Ready(r) => play_lines(r, &mut tally, &mut damaged),
+        SetUp::Ready(r) => lines = play_lines(r, &mut tally, &mut damaged),
         SetUp::Refused(_) => {}
     }
+    tally::too_long(&mut tally, lines);
     counts::show(&tally, &damaged);
 }

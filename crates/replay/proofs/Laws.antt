@@ -2,3 +2,4 @@
 pub mod Alike
 pub mod Slices
 pub mod Spelling
+pub mod Tallied

@@ -1,5 +1,6 @@
 // The tally of recorded answers that were played. It has sixteen places: twelve kinds of lines that have
 // an answer, the malformed lines, those that have no answer, all lines and those that differ.
+use crate::LINES;
 use crate::report::count as report;
 use crate::report::malformed;
 use crate::report::missed;
@@ -8,7 +9,7 @@ ghost use mathlib.Core.Path.{_≡_};
 ghost use Prim.Native.Nat.{_<_};
 ghost use lib.Dec.{ltb};
 ghost use lib.ListN.{getD};
-ghost use Rattle.replay.specs.Tally.{placeOf, oneMore, counted, noneDamaged};
+ghost use Rattle.replay.specs.Tally.{placeOf, oneMore, counted, Tallied, ended, noneDamaged};
 
 pub const MALFORMED: usize = 12;
 
@@ -31,12 +32,12 @@ pub fn of_damaged() -> [u64; 16]
     tally
 }
 
-// The place, and that of the malformed lines where there is none.
+// The place of a kind of lines, and that of the malformed lines where there is none.
 fn known(place: usize) -> usize
     ensures place { λ r. ⌜ r ≡ placeOf place ⌝ }
     ensures there { λ r. ⌜ r < 16 ⌝ }
 {
-    if place < 16 { place } else { MALFORMED }
+    if place < ALL { place } else { MALFORMED }
 }
 
 // Adds one at a place of the tally.
@@ -49,7 +50,8 @@ fn add(tally: &mut [u64; 16], place: usize)
 
 // Counts a line at its place.
 pub fn count(tally: &mut [u64; 16], place: usize, agrees: bool)
-    ensures { λ _. ⌜ now (tally .exit) ≡ counted (now (tally .entry)) place agrees ⌝ }
+    ensures tallied { λ _. ⌜ Tallied 1 (now (tally .entry)) (now (tally .exit)) ⌝ }
+    ensures counted { λ _. ⌜ now (tally .exit) ≡ counted (now (tally .entry)) place agrees ⌝ }
 {
     add(tally, known(place));
     add(tally, ALL);
@@ -68,7 +70,8 @@ pub fn shows_more(tally: &[u64; 16]) -> bool
 
 // Counts a line at its place, and writes it if it is one of the first that differ.
 pub fn count_line(tally: &mut [u64; 16], place: usize, line: &[u8], agrees: bool)
-    ensures { λ _. ⌜ now (tally .exit) ≡ counted (now (tally .entry)) place agrees ⌝ }
+    ensures tallied { λ _. ⌜ Tallied 1 (now (tally .entry)) (now (tally .exit)) ⌝ }
+    ensures counted { λ _. ⌜ now (tally .exit) ≡ counted (now (tally .entry)) place agrees ⌝ }
 {
     if !agrees && shows_more(tally) {
         missed(line);
@@ -83,10 +86,13 @@ pub fn played(tally: &[u64; 16]) -> u64
     tally[ALL]
 }
 
-// Counts input that goes on after the last line as one answer that differs.
-pub fn too_long(tally: &mut [u64; 16])
-    ensures { λ _. ⌜ now (tally .exit) ≡ oneMore (now (tally .entry)) 15 ⌝ }
+// Counts input that goes on after the last line that is read as one answer that differs.
+pub fn too_long(tally: &mut [u64; 16], lines: u64)
+    ensures { λ _. ⌜ now (tally .exit) ≡ ended (now (tally .entry)) lines ⌝ }
 {
+    if lines < LINES {
+        return;
+    }
     malformed(b"the input is too long");
     add(tally, DIFFER);
 }

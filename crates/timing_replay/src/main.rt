@@ -31,6 +31,7 @@ use replay::Operation;
 use replay::buffers;
 use replay::tally;
 use slot::Slot;
+ghost use Rattle.replay.specs.Tally.{Tallied};
 ghost use Rattle.timing_replay.specs.Slot.{SlotGiven};
 
 // Plays an operation, and counts it.
@@ -44,7 +45,8 @@ fn play(
     tally: &mut [u64; 16],
 ) -> Slot
     requires { ⌜ SlotGiven slot ⌝ }
-    ensures { λ r. ⌜ SlotGiven r ⌝ }
+    ensures given { λ r. ⌜ SlotGiven r ⌝ }
+    ensures tallied { λ _. ⌜ Tallied 1 (now (tally .entry)) (now (tally .exit)) ⌝ }
 {
     let mut agrees = buffers::play(op, values, input, output);
     let after = slot::play(slot, op, values, input, output, &mut agrees);
@@ -81,26 +83,29 @@ fn play_line(
     damaged: &mut [u64; 16],
 ) -> Slot
     requires { ⌜ SlotGiven slot ⌝ }
-    ensures { λ r. ⌜ SlotGiven r ⌝ }
+    ensures given { λ r. ⌜ SlotGiven r ⌝ }
+    ensures tallied { λ _. ⌜ Tallied 1 (now (tally .entry)) (now (tally .exit)) ⌝ }
 {
     let op = replay::read_operation(line);
     play_damaged(slot, op, values, input, output, damaged);
     play(slot, op, line, values, input, output, tally)
 }
 
-// Plays line after line, up to the end of the input. What is left there after the last whole line
-// counts as a line too.
-fn play_lines(tally: &mut [u64; 16], damaged: &mut [u64; 16]) {
+// Plays line after line, up to the end of the input, and says how many. What is left there after the last
+// whole line counts as a line too.
+fn play_lines(tally: &mut [u64; 16], damaged: &mut [u64; 16]) -> u64
+    ensures { λ r. ⌜ Tallied r (now (tally .entry)) (now (tally .exit)) ⌝ }
+{
     let mut values = [0u64; 5];
     let mut input = [0.0f32; 192];
     let mut output = [0.0f32; 192];
     let mut slot = Slot::Empty;
-    let mut left = LINES;
-    while left > 0 {
+    let mut heard = 0;
+    while heard < LINES {
         let mut line = [0u8; 53];
         let n = io::read_full(STDIN_FILENO, &mut line);
         if n == 0 {
-            return;
+            return heard;
         }
         slot = play_line(
             slot,
@@ -111,14 +116,15 @@ fn play_lines(tally: &mut [u64; 16], damaged: &mut [u64; 16]) {
             tally,
             damaged,
         );
-        left -= 1;
+        heard += 1;
     }
-    tally::too_long(tally);
+    heard
 }
 
 fn main() {
     let mut tally = [0; 16];
     let mut damaged = tally::of_damaged();
-    play_lines(&mut tally, &mut damaged);
+    let lines = play_lines(&mut tally, &mut damaged);
+    tally::too_long(&mut tally, lines);
     counts::show(&tally, &damaged);
 }

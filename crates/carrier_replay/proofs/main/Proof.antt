@@ -11,4 +11,5 @@ play-lines-requires c κs = subst SetUpGiven (c .before .before .before .s .give
 pub main-spec : {M : Type 1} → statement M
 main-spec =
     tie.close
-    (tie.spec (search needs) (search needs) (search needs) play-lines-requires (search needs) (search needs) (search needs))
+    (tie.spec (search needs) (search needs) (search needs) play-lines-requires (search needs) (search needs) (search needs)
+    (search needs))

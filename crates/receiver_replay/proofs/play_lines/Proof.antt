@@ -1,26 +1,37 @@
--- `receiver_replay::play_lines` is safe and ends. The loop's invariant: both receivers are given. The measure is the count of lines that may still come. Assumes nothing.
-use Rattle.receiver.specs.Record.{Given}
+-- `receiver_replay::play_lines` counts each line that it reads. The loop's invariant: both receivers are given, and so many lines are counted. The measure is how many may still come. Assumes nothing.
+use Prim.Native.Nat.{_-_}
 use native.Mathlib.Omega.{arith}
 use borrow.Author.Needs.{needs}
+use Rattle.receiver.specs.Record.{Given}
+use Rattle.replay.specs.Tally.{Tallied, none}
+use Rattle.replay.proofs.Laws.Tallied.{tallied-on}
 use Rattle.receiver_replay.proofs.play_lines.Statement.{statement}
 use Rattle.receiver_replay.proofs.play_lines.Tie as tie
 
 abbrev Inv-loop : tie.InvT-loop
-Inv-loop tally₀ damaged₀ timing₀ carrier₀ input₀ strobes₀ output₀ pair₀ left₀ tally damaged timing carrier input strobes output pair left = Given (pair .first) × Given (pair .second)
+Inv-loop tally₀ damaged₀ timing₀ carrier₀ input₀ strobes₀ output₀ pair₀ heard₀ tally damaged timing carrier input strobes output pair heard = (Given (pair .first) × Given (pair .second)) × Tallied heard tally₀ tally
 
 abbrev μ-loop : tie.MeasureT-loop
-μ-loop tally₀ damaged₀ timing₀ carrier₀ input₀ strobes₀ output₀ pair₀ left₀ tally damaged timing carrier input strobes output pair left = left
+μ-loop tally₀ damaged₀ timing₀ carrier₀ input₀ strobes₀ output₀ pair₀ heard₀ tally damaged timing carrier input strobes output pair heard = 67108864 - heard
 
--- a line may still come
-sub-left : tie.Need-sub-left Inv-loop μ-loop
-sub-left c = omega (arith, c .before .before .before .before .before .before .before .before .before .before .before .before .before .loop-test .taken)
+at-the-end : tie.Need-returns Inv-loop μ-loop
+at-the-end c = c .before .before .before .before .before .loop .inv .1
 
-loop-less : tie.Need-loop-less Inv-loop μ-loop
-loop-less c = omega (arith, c .before .before .before .before .before .before .before .before .before .before .before .before .before .loop-test .taken)
+may-play : tie.Need-play-line-requires Inv-loop μ-loop
+may-play c κs = c .before .before .before .before .before .before .before .before .before .before .before .before .before .loop .inv .0
+
+one-more : tie.Need-add-heard Inv-loop μ-loop
+one-more c = omega (arith, c .before .before .before .before .before .before .before .before .before .before .before .before .before .loop-test .taken)
+
+fewer : tie.Need-loop-less Inv-loop μ-loop
+fewer c = omega (arith, c .before .before .before .before .before .before .before .before .before .before .before .before .before .loop-test .taken)
+
+goes-on : tie.Need-loop-again Inv-loop μ-loop
+goes-on c = (c .play-line .ensures .0, tallied-on (c .before .before .before .before .before .before .before .before .before .before .before .before .before .before .loop .inv .1) (c .play-line .ensures .1))
 
 pub play-lines-spec : {M : Type 1} → statement M
 play-lines-spec =
     tie.close
-    (tie.spec Inv-loop μ-loop (search needs) (λ c. search needs) (search needs) (search needs) (search needs)
-    (search needs) (search needs) (λ c κs. search needs) sub-left loop-less (λ c. c .play-line .ensures)
-    (search needs) (search needs))
+    (tie.spec Inv-loop μ-loop (λ c κs. search needs) (λ c. ((c .before .pre, c .before .pre), none))
+    (λ c. search needs) (λ c κs. search needs) at-the-end (λ c. search needs) (λ c. search needs) may-play one-more
+    fewer goes-on (λ c. c .before .loop .inv .1))

@@ -1,18 +1,30 @@
--- `timing_replay::play_lines` is safe and ends. The loop's invariant: the state is given. The measure is the count of lines that may still come. Assumes nothing.
-use Rattle.timing_replay.specs.Slot.{SlotGiven}
+-- `timing_replay::play_lines` counts each line that it reads. The loop's invariant: the state is given, and so many lines are counted. The measure is how many may still come. Assumes nothing.
+use Prim.Native.Nat.{_-_}
 use borrow.Author.Needs.{needs}
+use Rattle.timing_replay.specs.Slot.{SlotGiven}
+use Rattle.replay.specs.Tally.{Tallied, none}
+use Rattle.replay.proofs.Laws.Tallied.{tallied-on}
 use Rattle.timing_replay.proofs.play_lines.Statement.{statement}
 use Rattle.timing_replay.proofs.play_lines.Tie as tie
 
 abbrev Inv-loop : tie.InvT-loop
-Inv-loop tally₀ damaged₀ values₀ input₀ output₀ slot₀ left₀ tally damaged values input output slot left = SlotGiven slot
+Inv-loop tally₀ damaged₀ values₀ input₀ output₀ slot₀ heard₀ tally damaged values input output slot heard = SlotGiven slot × Tallied heard tally₀ tally
 
 abbrev μ-loop : tie.MeasureT-loop
-μ-loop tally₀ damaged₀ values₀ input₀ output₀ slot₀ left₀ tally damaged values input output slot left = left
+μ-loop tally₀ damaged₀ values₀ input₀ output₀ slot₀ heard₀ tally damaged values input output slot heard = 67108864 - heard
+
+at-the-end : tie.Need-returns Inv-loop μ-loop
+at-the-end c = c .before .before .before .before .before .loop .inv .1
+
+may-play : tie.Need-play-line-requires Inv-loop μ-loop
+may-play c κs = c .before .before .before .before .before .before .before .before .before .before .before .loop .inv .0
+
+goes-on : tie.Need-loop-again Inv-loop μ-loop
+goes-on c = (c .play-line .ensures .0, tallied-on (c .before .before .before .before .before .before .before .before .before .before .before .before .loop .inv .1) (c .play-line .ensures .1))
 
 pub play-lines-spec : {M : Type 1} → statement M
 play-lines-spec =
     tie.close
-    (tie.spec Inv-loop μ-loop (λ c. search needs) (search needs) (search needs) (search needs) (search needs)
-    (search needs) (λ c κs. search needs) (search needs) (search needs) (λ c. search needs) (search needs)
-    (search needs))
+    (tie.spec Inv-loop μ-loop (λ c. (tt, none)) (λ c. search needs) (λ c κs. search needs) at-the-end
+    (λ c. search needs) (λ c. search needs) may-play (λ c. search needs) (λ c. search needs) goes-on
+    (λ c. c .before .loop .inv .1))
