@@ -64,8 +64,8 @@ joined q h = record {
 }
 
 -- before any call
-abbrev pub silent : Receiver → Heard
-silent r = record { strobes = []; outputs = []; instants = []; consumed = 0; produced = 0; receiver = r }
+abbrev pub unheard : Receiver → Heard
+unheard r = record { strobes = []; outputs = []; instants = []; consumed = 0; produced = 0; receiver = r }
 
 -- ---- a list of calls
 -- the recording: the blocks one after the other
@@ -75,7 +75,7 @@ recorded (c ∷ cs) = c .input ++ recorded cs
 
 -- what the calls give together
 unfoldable pub heard : Waiting → List Call → Heard
-heard w [] = silent (w .receiver)
+heard w [] = unheard (w .receiver)
 heard w (c ∷ cs) = joined (heardOn w c) (heard (waitsAfter w c) cs)
 
 -- the receiver after them, and what is left unconsumed

@@ -7,7 +7,7 @@ ghost use Rattle.receiver.specs.Record.{Given};
 
 // What the calls have come to: the last receiver, the number of the last call's refusal or 0, how many f32
 // of the input were handed over, and the sums of the counts.
-pub struct Received {
+pub(crate) struct Received {
     pub receiver: Receiver,
     pub number: u32,
     pub handed: usize,

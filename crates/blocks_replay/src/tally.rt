@@ -4,7 +4,7 @@ ghost use Rattle.blocks_replay.specs.Compare.{sumOf, oneCut, counted};
 
 // What was compared: the counts of the recording received whole, how many cuts, and how many of them
 // differ from it.
-pub struct Tally {
+pub(crate) struct Tally {
     pub consumed: u64,
     pub produced: u64,
     pub cuts: u64,

@@ -1,5 +1,7 @@
 // The loop filter and the oscillator's phase, from fallback/costas.rs.
 use crate::params::Params;
+use modulate::TURN;
+use numbers::TINY_F32;
 ghost use mathlib.Core.Path.{_≡_};
 ghost use lib.Ieee.{binary32};
 ghost use Rattle.ieee.specs.Notation.{zero₀};
@@ -17,19 +19,13 @@ pub struct Nco {
     pub freq: f32,
 }
 
-// Magnitudes below this are flushed to zero.
-const TINY: f32 = 1e-30;
-
-// The units of the phase in one turn, 2^32.
-const TURN: f64 = 4294967296.0;
-
 // The integrator `clamp(flush_denormal(t), -limit, limit)`: inside the limit and above the flush
 // threshold (the case of a running loop) it is t itself, after one branch that is well foretold.
-pub fn integrate(t: f32, limit: f32) -> f32
+pub(crate) fn integrate(t: f32, limit: f32) -> f32
     ensures { λ r. ⌜ r ≡ limited (flushed binary32 t) limit ⌝ }
 {
     let a = constellations::size(t);
-    if a <= limit && a >= TINY {
+    if a <= limit && a >= TINY_F32 {
         return t;
     }
     numbers::limit_f32(numbers::flush_denormal(t), limit)
@@ -62,7 +58,7 @@ fn coast(p: Params, n: Nco) -> Nco
 }
 
 // The oscillator after the detector's value e, which counts as 0 if it is not finite.
-pub fn advance(p: Params, n: Nco, e: f32) -> Nco
+pub(crate) fn advance(p: Params, n: Nco, e: f32) -> Nco
     ensures { λ r. ⌜ r ≡ advanced p n (calmed e) ⌝ }
 {
     if numbers::is_finite_f32(e) {

@@ -19,7 +19,7 @@ pub struct Params {
 }
 
 // The proportional and the integral gain.
-pub struct LoopGains {
+pub(crate) struct LoopGains {
     pub kp: f32,
     pub ki: f32,
 }
@@ -28,7 +28,7 @@ pub struct LoopGains {
 const TAU: f64 = 6.283185307179586;
 
 // The gains, computed in f64 and narrowed.
-pub fn loop_gains(loop_bw: f64, damping: f64) -> LoopGains
+pub(crate) fn loop_gains(loop_bw: f64, damping: f64) -> LoopGains
     ensures { λ r. ⌜ r ≡ record { kp = kpOf «loop_bw» damping; ki = kiOf «loop_bw» damping } ⌝ }
 {
     let q = gains::inner_gains(loop_bw, damping);

@@ -19,9 +19,13 @@ detected Bpsk y d = y .re ⊗ y .im
 detected Qpsk y d = signOf (y .re) ⊗ y .im ⊖ signOf (y .im) ⊗ y .re
 detected Psk8 y d = y .im ⊗ d .re ⊖ y .re ⊗ d .im
 
+-- of an output held against its own point
+abbrev pub detectedOwn : CostasConstellation → C32 → Float
+detectedOwn c y = detected c y (decisionOf c y)
+
 -- "0 if not finite"
 unfoldable pub calmed : Float → Float
 calmed e = cond (finite e) e zero₀
 
 unfoldable pub errorOf : CostasConstellation → C32 → Float
-errorOf c y = calmed (detected c y (decisionOf c y))
+errorOf c y = calmed (detectedOwn c y)

@@ -7,6 +7,7 @@ use Rattle.values.specs.declared.sample.C32.{C32}
 use Rattle.numbers.specs.Denormal.{flushed}
 use Rattle.constellations.specs.declared.kinds.CostasConstellation.{CostasConstellation}
 use Rattle.constellations.specs.declared.kinds.CostasConstellation.the-variants.{Bpsk, Qpsk, Psk8}
+use Rattle.constellations.specs.Octant.{decisionOf}
 use Rattle.detectors.specs.declared.lock.Metric.{Metric}
 use Rattle.detectors.specs.declared.lock.Metric.the-variants.{Number, Nothing}
 use Rattle.detectors.specs.declared.lock.Lock.{Lock}
@@ -43,6 +44,10 @@ unfoldable pub measured : CostasConstellation → C32 → C32 → Float
 measured Bpsk y d = bpskMeasure y
 measured Qpsk y d = qpskMeasure y
 measured Psk8 y d = psk8Measure y d
+
+-- of an output held against its own point
+abbrev pub measuredOwn : CostasConstellation → C32 → Float
+measuredOwn c y = measured c y (decisionOf c y)
 
 -- "a finite number or none"
 unfoldable pub metricOf : CostasConstellation → C32 → C32 → Metric

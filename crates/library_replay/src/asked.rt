@@ -5,7 +5,7 @@ use replay::Operation;
 use replay::f64_of;
 
 // The last line of each kind.
-pub struct Asked {
+pub(crate) struct Asked {
     pub timing: Operation,
     pub carrier: Operation,
     pub input: Operation,

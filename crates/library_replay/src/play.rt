@@ -11,7 +11,7 @@ use replay::words_agree;
 ghost use Rattle.library_replay.specs.Slot.{SlotGiven};
 
 // The receiver after a line, what the last call left in the buffers, and whether the line agrees.
-pub struct Played {
+pub(crate) struct Played {
     pub slot: Slot,
     pub strobes: Six,
     pub output: Six,

@@ -19,14 +19,14 @@ const SIX: usize = 6;
 const FILLING: u32 = 0xdeadbeef;
 
 // Six f32, as a line has them.
-pub struct Six {
+pub(crate) struct Six {
     pub x: u64,
     pub y: u64,
     pub z: u64,
 }
 
 // What a call left.
-pub struct Ran {
+pub(crate) struct Ran {
     pub receiver: Receiver,
     pub strobes: Six,
     pub output: Six,

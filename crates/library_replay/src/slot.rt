@@ -20,7 +20,7 @@ ghost use Rattle.plain_receiver.specs.Receiver.{Given};
 ghost use Rattle.library_replay.specs.Slot.{SlotGiven};
 
 // The receiver, once a set-up was accepted.
-pub enum Slot {
+pub(crate) enum Slot {
     Empty,
     Ready(Receiver),
 }

@@ -14,16 +14,16 @@ const INCREMENT: u64 = 1013904223;
 const MODULUS: u64 = 0x1_0000_0000;
 
 // A quarter of the states: the top two bits of a state say in which quarter it lies.
-const QUARTER: u32 = 0x4000_0000;
+const STATES_QUARTER: u32 = 0x4000_0000;
 
 // The carrier's phase at the first sample, in units of 2^-32 turn: a twelfth of a turn.
 const START_PHASE: u32 = 0x1555_5555;
 
 // What the phase grows by from sample to sample: 0.0005 of a turn, which is 0.002 of a turn a symbol.
-pub const PHASE_STEP: u32 = 0x20_c49c;
+pub(crate) const PHASE_STEP: u32 = 0x20_c49c;
 
 // The generator's state, the symbol that is left, the one that comes, and the phase of the next sample.
-pub struct Source {
+pub(crate) struct Source {
     pub state: u32,
     pub from: C32,
     pub to: C32,
@@ -42,7 +42,7 @@ fn step(state: u32) -> u32
 fn point(state: u32) -> C32
     ensures { λ r. ⌜ r ≡ pointOf state ⌝ }
 {
-    let number = state / QUARTER;
+    let number = state / STATES_QUARTER;
     match number {
         0 => C32 { re: 1.0, im: 1.0 },
         1 => C32 { re: -1.0, im: 1.0 },
@@ -52,7 +52,7 @@ fn point(state: u32) -> C32
 }
 
 // The first symbol comes out of silence.
-pub fn start() -> Source
+pub(crate) fn start() -> Source
     ensures { λ r. ⌜ r ≡ started ⌝ }
 {
     let state = step(SEED);
@@ -65,7 +65,7 @@ pub fn start() -> Source
 }
 
 // A symbol on.
-pub fn next(s: Source) -> Source
+pub(crate) fn next(s: Source) -> Source
     ensures { λ r. ⌜ r ≡ nextOf s ⌝ }
 {
     let state = step(s.state);

@@ -45,7 +45,7 @@ fn sample(table: &[f32; 4097], s: Source, j: u32) -> C32
 }
 
 // The four samples that lead to the next symbol, real part first.
-pub fn samples_of(table: &[f32; 4097], s: Source) -> [f32; 8]
+pub(crate) fn samples_of(table: &[f32; 4097], s: Source) -> [f32; 8]
     ensures { λ r. ⌜ r ≡ fourOf (now (table .entry)) s ⌝ }
 {
     let a = sample(table, s, 0);

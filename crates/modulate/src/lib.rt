@@ -3,4 +3,5 @@ mod modulate;
 mod single;
 
 pub use modulate::phase_step;
+pub use single::TURN;
 pub use single::phase_step_f32;

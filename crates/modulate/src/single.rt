@@ -9,7 +9,7 @@ ghost use mathlib.Core.Bool.{cond};
 ghost use Rattle.modulate.specs.Step.{phaseStep, bitsRange};
 
 // 2^32: one turn of the phase.
-const TURN: f64 = 4_294_967_296.0;
+pub const TURN: f64 = 4_294_967_296.0;
 
 // 2^14, the size below which the step is taken from the bits.
 const BITS_RANGE: f32 = 16384.0;
@@ -20,7 +20,7 @@ const SIGN: u32 = 0x8000_0000;
 const LEADING: u32 = 0x80_0000;
 
 // 2^39: a significand of 24 bits times this stays below 2^63.
-const HIGH: u64 = 0x80_0000_0000;
+const SCALE: u64 = 0x80_0000_0000;
 
 // 2^63, where zero is moved to, and one less.
 const ORIGIN: u64 = 0x8000_0000_0000_0000;
@@ -58,7 +58,7 @@ fn phase_step_bits(v: f32) -> u32
 {
     let bits = f32::to_bits(v);
     let exp = bits / LEADING % 0x100;
-    let m = (bits % LEADING + LEADING) as u64 * HIGH;
+    let m = (bits % LEADING + LEADING) as u64 * SCALE;
     let s = moved(bits, m);
     let k = at_most_63(156 - exp);
     let q1 = (s >> k) + (ROOM - (BELOW_ORIGIN >> k));

@@ -4,7 +4,7 @@ ghost use lib.Ieee.{binary32, binary64};
 ghost use Rattle.numbers.specs.Denormal.{flushed};
 
 // The threshold, nearest in each width.
-const TINY_F32: f32 = 1e-30;
+pub const TINY_F32: f32 = 1e-30;
 
 const TINY_F64: f64 = 1e-30;
 

@@ -8,6 +8,7 @@ mod signs;
 mod whole;
 mod widening;
 
+pub use denormal::TINY_F32;
 pub use denormal::flush_denormal;
 pub use denormal::flush_denormal_f64;
 pub use narrowing::narrow;

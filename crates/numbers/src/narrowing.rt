@@ -21,7 +21,7 @@ const NORMAL: u64 = 897;
 const BEYOND: u64 = 1151;
 
 // Of 53 digits 24 are kept. The last of the 29 places shifted out rounds; these come before it.
-const PLACES: u64 = 28;
+const SHIFTED_OUT: u64 = 28;
 
 // i / 2^(places + 1) to the nearest whole number, ties to even, where `lost` adds a half to i. It
 // calls itself for each place shifted out but the last, which rounds, and `lost` says whether one of
@@ -53,9 +53,9 @@ fn narrow_bits(size: u64) -> u64
     if field < HALF_SMALLEST {
         0
     } else if field < NORMAL {
-        shifted(digits, false, PLACES + (NORMAL - field))
+        shifted(digits, false, SHIFTED_OUT + (NORMAL - field))
     } else if field < BEYOND {
-        (field - NORMAL) * LEADING_F32 + shifted(digits, false, PLACES)
+        (field - NORMAL) * LEADING_F32 + shifted(digits, false, SHIFTED_OUT)
     } else {
         INFINITY_F32
     }

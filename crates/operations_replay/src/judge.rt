@@ -4,7 +4,7 @@ use replay::HIGH;
 use replay::Operation;
 
 // Whether the computed answer agrees with the recorded one. If not, the computed one's word.
-pub enum Verdict {
+pub(crate) enum Verdict {
     Agrees,
     Differs(u64),
     Malformed,

@@ -12,7 +12,7 @@ ghost use Rattle.receive_recording.specs.Block.{callOn, calledOf, endedB
 const PLACES: usize = 512;
 
 // A call: its number and counts, and the receiver after it; and whether its symbols could be written.
-pub struct Called {
+pub(crate) struct Called {
     pub counts: Counts,
     pub receiver: Receiver,
     pub written: bool,
@@ -20,7 +20,7 @@ pub struct Called {
 
 // A block: the number of the refusal that ended it or 0, and the receiver after it; and whether its
 // symbols could be written.
-pub struct Received {
+pub(crate) struct Received {
     pub number: u32,
     pub receiver: Receiver,
     pub written: bool,

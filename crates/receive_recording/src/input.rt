@@ -9,7 +9,7 @@ ghost use Rattle.io.specs.Counts.{Counts};
 const RETRIES: u32 = 1000;
 
 // How many bytes were read into the front of a buffer, and whether a read failed behind them.
-pub struct Filled {
+pub(crate) struct Filled {
     pub count: usize,
     pub failed: bool,
 }

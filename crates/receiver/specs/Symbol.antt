@@ -17,3 +17,9 @@ unfoldable pub symbolOf : CostasConstellation → C32 → ℕ
 symbolOf Bpsk y = bpskOf y
 symbolOf Qpsk y = octantOf y / 2
 symbolOf Psk8 y = octantOf y
+
+-- as many numbers as the constellation has points
+abbrev pub pointCount : CostasConstellation → ℕ
+pointCount Bpsk = 2
+pointCount Qpsk = 4
+pointCount Psk8 = 8

@@ -15,7 +15,7 @@ ghost use Prim.Native.Nat.{_≤_};
 ghost use Rattle.receiver.specs.Record.{Given};
 
 // How many f32 a buffer has.
-const PLACES: u64 = 192;
+const MOST_PLACES: u64 = 192;
 
 // What the length of the strobe buffer counts in the word of a run's lengths.
 const STROBES: u64 = 0x1_0000;
@@ -43,7 +43,9 @@ pub(crate) fn set_count(r: Receiver, count: u64) -> Receiver
 
 // Whether the lengths of a run's line are those of its buffers or less.
 fn lengths_fit(op: Operation) -> bool {
-    op.x % STROBES <= PLACES && op.x / STROBES % STROBES <= PLACES && op.x / HIGH <= PLACES
+    op.x % STROBES <= MOST_PLACES
+        && op.x / STROBES % STROBES <= MOST_PLACES
+        && op.x / HIGH <= MOST_PLACES
 }
 
 // The length that a line asks for, and no more than there is.

@@ -12,10 +12,10 @@ use values::store_sample;
 const SAMPLES: usize = 96;
 
 // A quarter turn of a phase.
-const QUARTER: u64 = 0x4000_0000;
+const QUARTER: u64 = HIGH / 4;
 
 // Quarter turns: those of the second receiver's samples, and those that its phase is on.
-pub struct Turns {
+pub(crate) struct Turns {
     pub samples: u64,
     pub phase: u64,
 }

@@ -9,15 +9,15 @@ use Rattle.replay.specs.declared.line.Operation.{Operation}
 use Rattle.replay.specs.Line.{has}
 
 -- six f32 of a line, two in each word, the first in its high half
-abbrev pub pairAt : List Float → ℕ → ℕ
-pairAt l k = toBits binary32 (getD l k nan) * 2 ^ 32 + toBits binary32 (getD l (k + 1) nan)
+abbrev pub twoAt : List Float → ℕ → ℕ
+twoAt l k = toBits binary32 (getD l k nan) * 2 ^ 32 + toBits binary32 (getD l (k + 1) nan)
 
 abbrev pub sameSix : List Float → ℕ → Operation → Bool
-sameSix l k op = has op (pairAt l k) (pairAt l (k + 2)) (pairAt l (k + 4))
+sameSix l k op = has op (twoAt l k) (twoAt l (k + 2)) (twoAt l (k + 4))
 
 -- where six f32 stand, by the count so far: at the end, if there is no room
-abbrev pub placeOf : ℕ → ℕ
-placeOf n = cond (ltb 186 n) 186 n
+abbrev pub sixAt : ℕ → ℕ
+sixAt n = cond (ltb 186 n) 186 n
 
 -- by the letter: v, i, o, r, z or another
 abbrev pub byLetter : {A : Type 0} → ℕ → A → A → A → A → A → A → A
@@ -25,4 +25,4 @@ byLetter c v i o r z other = cond (eqb c 118) v (cond (eqb c 105) i (cond (eqb c
 
 -- false where the state has to say so
 abbrev pub agreed : Operation → List ℕ → List Float → Bool
-agreed op vs os = byLetter (op .letter) true true (sameSix os (placeOf (getD vs 4 0)) op) false (has op 0 0 0) false
+agreed op vs os = byLetter (op .letter) true true (sameSix os (sixAt (getD vs 4 0)) op) false (has op 0 0 0) false

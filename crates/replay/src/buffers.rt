@@ -18,7 +18,7 @@ use patterns::f32_of;
 ghost use mathlib.Core.Path.{_≡_};
 ghost use Prim.Native.Nat.{_<_};
 ghost use lib.ListN.{getD};
-ghost use Rattle.replay.specs.Buffers.{pairAt, sameSix, placeOf, agreed};
+ghost use Rattle.replay.specs.Buffers.{twoAt, sameSix, sixAt, agreed};
 
 const INPUT: usize = 3;
 
@@ -47,7 +47,7 @@ fn put_six(input: &mut [f32; 192], k: usize, op: Operation)
 
 fn word_at(output: &[f32; 192], k: usize) -> u64
     requires { ⌜ k < 191 ⌝ }
-    ensures { λ r. ⌜ r ≡ pairAt (now (output .entry)) k ⌝ }
+    ensures { λ r. ⌜ r ≡ twoAt (now (output .entry)) k ⌝ }
 {
     word(output[k], output[k + 1])
 }
@@ -67,7 +67,7 @@ fn six_agree(output: &[f32; 192], k: usize, op: Operation) -> bool
 // Where the line's six f32 stand in a buffer. What has no room comes to stand at its end.
 fn next_six(values: &mut [u64; 5], count: usize) -> usize
     requires { ⌜ count < 5 ⌝ }
-    ensures place { λ r. ⌜ r ≡ placeOf (getD (now (values .entry)) count 0) ⌝ }
+    ensures place { λ r. ⌜ r ≡ sixAt (getD (now (values .entry)) count 0) ⌝ }
     ensures room { λ r. ⌜ r < 187 ⌝ }
 {
     let at = values[count];

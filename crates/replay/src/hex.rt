@@ -2,7 +2,7 @@
 ghost use mathlib.Core.Path.{_≡_};
 ghost use Rattle.replay.specs.Hex.{valueOf, wordOf};
 
-pub enum Word {
+pub(crate) enum Word {
     Value(u64),
     Broken,
 }
@@ -26,7 +26,7 @@ fn digit(b: u8) -> u64
 }
 
 // The number that text spells, or `Broken` if it is not 16 digits.
-pub fn read_word(text: &[u8]) -> Word
+pub(crate) fn read_word(text: &[u8]) -> Word
     ensures { λ r. ⌜ r ≡ wordOf (now (text .entry)) ⌝ }
 {
     if text.len() != 16 {

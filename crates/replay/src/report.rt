@@ -2,7 +2,7 @@
 use libc::STDOUT_FILENO;
 
 // Writes a line with a name and how many lines were played under it.
-pub fn count(name: &[u8], n: u64) {
+pub(crate) fn count(name: &[u8], n: u64) {
     io::write_all(STDOUT_FILENO, name);
     io::write_all(STDOUT_FILENO, b" ");
     io::print_decimal(STDOUT_FILENO, n);
@@ -10,7 +10,7 @@ pub fn count(name: &[u8], n: u64) {
 }
 
 // Writes the last line: how many answers there were, and how many of them differ.
-pub fn summary(answers: u64, differ: u64) {
+pub(crate) fn summary(answers: u64, differ: u64) {
     io::print_decimal(STDOUT_FILENO, answers);
     io::write_all(STDOUT_FILENO, b" answers, ");
     io::print_decimal(STDOUT_FILENO, differ);
@@ -26,7 +26,7 @@ pub fn differs(line: &[u8], computed: u64) {
 }
 
 // Writes a recorded line that says something else than was computed.
-pub fn missed(line: &[u8]) {
+pub(crate) fn missed(line: &[u8]) {
     io::write_all(STDOUT_FILENO, b"missed ");
     io::write_all(STDOUT_FILENO, line);
 }

@@ -9,7 +9,7 @@ ghost use Rattle.complex_sync.specs.Views as complexSync;
 ghost use Rattle.timing_replay.specs.Slot.{SlotGiven};
 
 // The state, once a set-up was accepted.
-pub enum Slot {
+pub(crate) enum Slot {
     Empty,
     Real(real_sync::SymbolSyncState),
     Complex(complex_sync::SymbolSyncState),

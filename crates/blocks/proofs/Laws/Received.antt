@@ -1,4 +1,4 @@
--- The receiver over a list of samples, as one run: an accepted call is such a run and a refused one is silent; two runs in a row are one, and one on nothing changes nothing. Assumes nothing.
+-- The receiver over a list of samples, as one run: an accepted call is such a run and a refused one leaves nothing heard; two runs in a row are one, and one on nothing changes nothing. Assumes nothing.
 use mathlib.Core.Path.{_≡_, refl, sym, ap, ap₂, _∙_}
 use mathlib.Core.Bool.{true, false, cond}
 use mathlib.Core.List.{List, [], _∷_, _++_, map}
@@ -26,7 +26,7 @@ use Rattle.receiver.proofs.Laws.Refused.{accepted-done, refused-by}
 use Rattle.receiver.proofs.Laws.Count.{held-none, held-twice}
 use Rattle.blocks.specs.Instants.{Instant, later, instants}
 use Rattle.blocks.specs.Timing.{goesOn, together}
-use Rattle.blocks.specs.Receiver.{Waiting, handed, callOn, waitsAfter, Heard, heardOn, joined, silent}
+use Rattle.blocks.specs.Receiver.{Waiting, handed, callOn, waitsAfter, Heard, heardOn, joined, unheard}
 use Rattle.blocks.proofs.Laws.Timing.{ran-together, instants-together}
 use Rattle.blocks.proofs.Laws.Nothing.{ran-nothing, instants-nothing}
 use Rattle.blocks.proofs.Laws.Instants.{instants-count}
@@ -117,13 +117,13 @@ module _ (w : Waiting) (c : Call) where
       let is = instants complex (sync (r .timing)) (samples (handed w c)) (length (c .strobes) / 2) in
       (λ j. record { strobes = strobesOf (e j); outputs = outputsOf (e j); instants = cond (h j) is []; consumed = e j .consumed; produced = e j .produced; receiver = e j .receiver }) ∙ done-received
 
--- ---- a call that is refused is silent
+-- ---- a refused call leaves nothing heard
 module _ (w : Waiting) (c : Call) (h : accepts (handed w c) (c .strobes) (c .output) ≡ false) where
   abbrev refusal : (n : Refusal) × (callOn w c ≡ refusedCall n (w .receiver) (c .strobes) (c .output))
   refusal = refused-by (w .receiver) (handed w c) (c .strobes) (c .output) h
 
-  pub refused-silent : heardOn w c ≡ silent (w .receiver)
-  refused-silent =
+  pub refused-unheard : heardOn w c ≡ unheard (w .receiver)
+  refused-unheard =
       let e = refusal .1 in
       let is = instants complex (sync (w .receiver .timing)) (samples (handed w c)) (length (c .strobes) / 2) in
       λ j. record { strobes = strobesOf (e j); outputs = outputsOf (e j); instants = cond (h j) is []; consumed = e j .consumed; produced = e j .produced; receiver = e j .receiver }
@@ -137,11 +137,11 @@ not-later : (l : List Instant) → map (later 0) l ≡ l
 not-later [] = refl
 not-later (x ∷ l) = λ j. record { sample = +ℤ-idl (x .sample) j; part = x .part } ∷ not-later l j
 
-pub silent-first : (r : Receiver) (h : Heard) → joined (silent r) h ≡ h
-silent-first r h = λ j. record { strobes = h .strobes; outputs = h .outputs; instants = not-later (h .instants) j; consumed = zero-add (h .consumed) j; produced = zero-add (h .produced) j; receiver = h .receiver }
+pub unheard-first : (r : Receiver) (h : Heard) → joined (unheard r) h ≡ h
+unheard-first r h = λ j. record { strobes = h .strobes; outputs = h .outputs; instants = not-later (h .instants) j; consumed = zero-add (h .consumed) j; produced = zero-add (h .produced) j; receiver = h .receiver }
 
 -- ---- on nothing
-pub received-nothing : (r : Receiver) → Given r → (m : ℕ) → received r [] m ≡ silent r
+pub received-nothing : (r : Receiver) → Given r → (m : ℕ) → received r [] m ≡ unheard r
 unfolding runs
 received-nothing r given m =
     ap₂ (λ (t : Ran C32) (is : List Instant). assembled r t (carried r (t .values)) is) (ran-nothing complex (sync (r .timing)) (given .timing) m) (instants-nothing complex (sync (r .timing)) (given .timing) m)

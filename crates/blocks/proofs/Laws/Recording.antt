@@ -19,8 +19,8 @@ use Rattle.receiver.specs.Calls.{Call}
 use Rattle.receiver.proofs.Laws.Given.{called-given}
 use Rattle.receiver.proofs.Laws.Refused.{accepted-whole}
 use Rattle.blocks.specs.Instants.{later}
-use Rattle.blocks.specs.Receiver.{Waiting, start, handed, waitsAfter, Heard, heardOn, joined, silent, recorded, heard, waits, left}
-use Rattle.blocks.proofs.Laws.Received.{received, received-instants, call-received, refused-silent, refused-waits, silent-first, received-joined, received-nothing}
+use Rattle.blocks.specs.Receiver.{Waiting, start, handed, waitsAfter, Heard, heardOn, joined, unheard, recorded, heard, waits, left}
+use Rattle.blocks.proofs.Laws.Received.{received, received-instants, call-received, refused-unheard, refused-waits, unheard-first, received-joined, received-nothing}
 
 -- the places of all calls
 unfoldable places : List Call → ℕ
@@ -57,8 +57,8 @@ module _ (w : Waiting) (c : Call) (cs : List Call) (m : ℕ) (given : Given (w .
   refused-first : accepts xs (c .strobes) (c .output) ≡ false → joined (heardOn w c) (heard (waitsAfter w c) cs) ≡ after (samples (xs ++ recorded cs))
   refused-first h =
       let stays = refused-waits w c h in
-      ap₂ joined (refused-silent w c h) (ap (λ (v : Waiting). heard v cs) stays)
-      ∙ silent-first (w .receiver) (heard (record { receiver = w .receiver; rest = xs }) cs)
+      ap₂ joined (refused-unheard w c h) (ap (λ (v : Waiting). heard v cs) stays)
+      ∙ unheard-first (w .receiver) (heard (record { receiver = w .receiver; rest = xs }) cs)
       ∙ others (record { receiver = w .receiver; rest = xs }) m given (omega arith) (ap (λ (v : Waiting). waits v cs .rest) (sym stays) ∙ none)
 
   first-one : joined (heardOn w c) (heard (waitsAfter w c) cs) ≡ after (samples (xs ++ recorded cs))
@@ -97,4 +97,4 @@ one-instant-each (c ∷ cs) w =
   where
     call-instants : (b : Bool) → accepts (handed w c) (c .strobes) (c .output) ≡ b → length (heardOn w c .instants) ≡ heardOn w c .produced
     call-instants true e = subst (λ (q : Heard). length (q .instants) ≡ q .produced) (sym (call-received w c e)) (received-instants (w .receiver) (samples (handed w c)) (length (c .strobes) / 2))
-    call-instants false e = subst (λ (q : Heard). length (q .instants) ≡ q .produced) (sym (refused-silent w c e)) refl
+    call-instants false e = subst (λ (q : Heard). length (q .instants) ≡ q .produced) (sym (refused-unheard w c e)) refl

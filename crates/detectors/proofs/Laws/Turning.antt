@@ -12,8 +12,8 @@ use Rattle.numbers.proofs.Laws.Sign.{sign-neg, alike-sign}
 use Rattle.constellations.specs.declared.kinds.CostasConstellation.{CostasConstellation}
 use Rattle.constellations.specs.declared.kinds.CostasConstellation.the-variants.{Bpsk, Qpsk, Psk8}
 use Rattle.constellations.specs.Octant.{decisionOf}
-use Rattle.detectors.specs.Detector.{detected}
-use Rattle.detectors.specs.Lock.{bpskMeasure, measured}
+use Rattle.detectors.specs.Detector.{detected, detectedOwn}
+use Rattle.detectors.specs.Lock.{bpskMeasure, measured, measuredOwn}
 use Rattle.detectors.specs.Turns.{Allowed}
 use Rattle.detectors.proofs.Laws.Quad.{qpskMeasure-turn, qpskMeasure-alike}
 use Rattle.detectors.proofs.Laws.Eight.{detected8-turn, detected8-alike, psk8Measure-turn, psk8Measure-alike}
@@ -43,10 +43,6 @@ module _ (F : C32 → Float) where
   same-halves h (suc (suc k)) e y = h (turns k y) ∙ same-halves h k (omega arith) y
 
 -- ---- detectors
--- of a sample held against its own point
-abbrev pub detectedOwn : CostasConstellation → C32 → Float
-detectedOwn c y = detected c y (decisionOf c y)
-
 bpsk-half : (y : C32) → Alike (detectedOwn Bpsk (turn (turn y))) (detectedOwn Bpsk y)
 unfolding detected
 bpsk-half y = search likes
@@ -71,9 +67,6 @@ pub turned-detected : (c : CostasConstellation) (k m : ℕ) → Allowed c k m �
 turned-detected c k m a y p = like-then (detected-alike c p) (detected-turns c k m a y)
 
 -- ---- lock measures
-abbrev pub measuredOwn : CostasConstellation → C32 → Float
-measuredOwn c y = measured c y (decisionOf c y)
-
 bpskMeasure-alike : {v y : C32} → AlikeSample v y → bpskMeasure v ≡ bpskMeasure y
 unfolding bpskMeasure
 bpskMeasure-alike p = rw (like-square binary32 (p .real), like-square binary32 (p .imag))

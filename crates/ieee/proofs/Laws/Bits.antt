@@ -13,6 +13,7 @@ use lib.Ieee.Fits.{neg-fits}
 use lib.Ieee.Exact.{HasValue, odd-sign}
 use lib.Ieee.Bits.{ofBits-toBits, ofBits-fits, toBits-ofBits, toBits-lt, nanBits-is, nanBits-above, is-false}
 use borrow.Author.Tests.{le-leb, lt-leb}
+use Rattle.ieee.specs.Alike.{withSign}
 use Rattle.ieee.proofs.Laws.Round.{odd-neg}
 use Rattle.ieee.proofs.Laws.Unique.{value-unique}
 
@@ -67,11 +68,6 @@ fields-neg f (suc x) t = go (eqb (suc x) (ones f)) (eqb t 0)
     go true true = unfold neg in refl
     go true false = unfold neg in refl
     go false b = odd-neg (prec f) false (hid f + t) x (low f)
-
--- v, or its opposite where the sign's bit is a one
-abbrev pub withSign : ℕ → Float → Float
-withSign zero v = v
-withSign (suc k) v = neg v
 
 above : (f : Format) (n : ℕ) → n < top f → (leb (top f) (top f + n) ≡ true) × (leb (top f) n ≡ false) × ((top f + n) % top f / hid f ≡ n % top f / hid f) × ((top f + n) % hid f ≡ n % hid f)
 above binary32 n h = (le-leb (top binary32) (top binary32 + n) (omega arith), lt-leb (top binary32) n h, omega arith, omega arith)

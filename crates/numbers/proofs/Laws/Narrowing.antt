@@ -12,7 +12,7 @@ use lib.Ieee.Exact.{HasValue}
 use lib.Ieee.Scale.{finite, round-same}
 use lib.Ieee.Positive.{den, den-pos}
 use Rattle.ieee.specs.Notation.{zero₀, one₀}
-use Rattle.ieee.specs.Alike.{plain, signed, Like}
+use Rattle.ieee.specs.Alike.{plain, signed, withSign, Like}
 use Rattle.ieee.specs.Fraction.{plus, less, Span}
 use Rattle.ieee.specs.Rounding.{Rounds}
 use Rattle.ieee.proofs.Laws.Order.{le→cross, between}
@@ -21,7 +21,6 @@ use Rattle.ieee.proofs.Laws.Exact.{round-own}
 use Rattle.ieee.proofs.Laws.Round.{round-neg, round-zero, round-number}
 use Rattle.ieee.proofs.Laws.Rounds.{at-high, at-deep, rounds-mono}
 use Rattle.numbers.specs.Narrowing.{narrowed}
-use Rattle.ieee.proofs.Laws.Bits.{withSign}
 
 -- ---- only the value counts
 pub narrow-value : (x : Float) (s : Bool) (a c : ℕ) → 0 < c → HasValue x s a c → narrowed x ≡ round binary32 s a c

@@ -15,15 +15,9 @@ use Rattle.values.specs.Turn.{AlikeSample}
 use Rattle.constellations.specs.declared.kinds.CostasConstellation.{CostasConstellation}
 use Rattle.constellations.specs.declared.kinds.CostasConstellation.the-variants.{Bpsk, Qpsk, Psk8}
 use Rattle.constellations.proofs.Laws.Octant.{octant-alike, octant-below, octant-silence}
-use Rattle.receiver.specs.Symbol.{bpskOf, symbolOf}
+use Rattle.receiver.specs.Symbol.{bpskOf, symbolOf, pointCount}
 
--- as many as the constellation has points
-abbrev pub order : CostasConstellation → ℕ
-order Bpsk = 2
-order Qpsk = 4
-order Psk8 = 8
-
-pub symbol-below : (c : CostasConstellation) (y : C32) → symbolOf c y < order c
+pub symbol-below : (c : CostasConstellation) (y : C32) → symbolOf c y < pointCount c
 unfolding symbolOf bpskOf
 symbol-below Bpsk y = go (lt (y .re) zero₀ || (eq (y .re) zero₀ && lt (y .im) zero₀))
   where

@@ -7,7 +7,8 @@ use lib.Ieee.{binary32, binary64, fits, div, ofBits, toBits}
 use lib.Ieee.Bits.{nanBits-is}
 use Rattle.numbers.specs.Narrowing.{narrowed}
 use Rattle.ieee.proofs.Laws.Test.{yes}
-use Rattle.ieee.proofs.Laws.Bits.{withSign, sign-bit, sign-lt, parts, size-le}
+use Rattle.ieee.specs.Alike.{withSign}
+use Rattle.ieee.proofs.Laws.Bits.{sign-bit, sign-lt, parts, size-le}
 use Rattle.ieee.proofs.Laws.Nan.{not-nan, is-nan}
 use Rattle.numbers.proofs.Laws.Narrowing.{narrow-number, narrow-with-sign}
 use Rattle.numbers.proofs.narrowing.narrow.Statement.{statement}

@@ -6,7 +6,8 @@ use lib.Dec.{T}
 use lib.Ieee.{binary32, binary64, fits, div, ofBits, toBits}
 use lib.Ieee.Bits.{nanBits-is, toBits-lt}
 use Rattle.ieee.proofs.Laws.Test.{yes}
-use Rattle.ieee.proofs.Laws.Bits.{withSign, sign-bit, sign-lt, parts, size-le}
+use Rattle.ieee.specs.Alike.{withSign}
+use Rattle.ieee.proofs.Laws.Bits.{sign-bit, sign-lt, parts, size-le}
 use Rattle.ieee.proofs.Laws.Nan.{not-nan, is-nan}
 use Rattle.numbers.proofs.widening.widen.Statement.{statement}
 use Rattle.numbers.proofs.widening.widen.Tie as tie
