@@ -166,7 +166,7 @@ typedef struct trr_timing_values {
     uint32_t ted;
     /** Loop bandwidth as a fraction of the symbol rate, 0.0001 to 0.1. */
     double loop_bw;
-    /** Damping, 0.1 to 4. */
+    /** Damping, 0.1 to 4; 1/sqrt(2) is usual. */
     double damping;
     /** Largest deviation of the pace from sps, as a fraction of sps, 0 to 0.05. */
     double max_deviation;
@@ -348,7 +348,7 @@ trr_counts trr_complex_run(trr_complex_timing *x,
 typedef struct trr_carrier_values {
     /** Loop bandwidth as a fraction of the symbol rate, 0.0001 to 0.2. */
     double loop_bw;
-    /** Damping, 0.1 to 4. */
+    /** Damping, 0.1 to 4; 1/sqrt(2) is usual. */
     double damping;
     /** Largest frequency offset, in cycles per symbol, 0 to 0.25. */
     double max_offset;

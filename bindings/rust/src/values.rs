@@ -12,7 +12,7 @@ pub struct TimingValues {
     pub ted: Detector,
     /// Loop bandwidth as a fraction of the symbol rate, 0.0001 to 0.1.
     pub loop_bw: f64,
-    /// Damping, 0.1 to 4.
+    /// Damping, 0.1 to 4; 1/√2 is usual.
     pub damping: f64,
     /// Largest deviation of the pace from `sps`, as a fraction of `sps`, 0 to 0.05.
     pub max_deviation: f64,
@@ -50,7 +50,7 @@ impl TimingValues {
 pub struct CarrierValues {
     /// Loop bandwidth as a fraction of the symbol rate, 0.0001 to 0.2.
     pub loop_bw: f64,
-    /// Damping, 0.1 to 4.
+    /// Damping, 0.1 to 4; 1/√2 is usual.
     pub damping: f64,
     /// Largest frequency offset, in cycles per symbol, 0 to 0.25.
     pub max_offset: f64,

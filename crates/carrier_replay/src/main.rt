@@ -100,12 +100,12 @@ fn play_lines(first: CostasState, tally: &mut [u64; 16], damaged: &mut [u64; 16]
     let mut input = [0.0f32; 192];
     let mut output = [0.0f32; 192];
     let mut s = first;
-    let mut heard = 0;
-    while heard < LINES {
+    let mut count = 0;
+    while count < LINES {
         let mut line = [0u8; 53];
         let n = io::read_full(STDIN_FILENO, &mut line);
         if n == 0 {
-            return heard;
+            return count;
         }
         s = play_line(
             s,
@@ -116,9 +116,9 @@ fn play_lines(first: CostasState, tally: &mut [u64; 16], damaged: &mut [u64; 16]
             tally,
             damaged,
         );
-        heard += 1;
+        count += 1;
     }
-    heard
+    count
 }
 
 // Some state is there before the first line sets up its own.

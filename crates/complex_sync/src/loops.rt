@@ -8,6 +8,7 @@ use strobe_clock::consumed;
 use strobe_clock::lacks;
 use strobe_clock::mid_left;
 use strobe_clock::mid_position;
+use timing::HIST;
 use timing::Params;
 use timing::Ted;
 use values::Answer;
@@ -41,7 +42,7 @@ fn at(h: Hist, input: &[f32], j: usize) -> C32
     if j == 2 {
         return h.c;
     }
-    values::sample_at(input, j - 3)
+    values::sample_at(input, j - HIST)
 }
 
 // The window of the position with integer part i: samples i - 1 to i + 2. Past the history it is read
@@ -50,17 +51,18 @@ fn window(h: Hist, input: &[f32], i: usize) -> [C32; 4]
     requires { ⌜ (1 ≤ i) × (i ≤ length (now input) / 2) ⌝ }
     ensures { λ r. ⌜ r ≡ loop.windowAt complex (line h (now (input .entry))) i ⌝ }
 {
-    if i < 4 {
+    if i <= HIST {
         let a = at(h, input, i - 1);
         let b = at(h, input, i);
         let c = at(h, input, i + 1);
         let d = at(h, input, i + 2);
         [a, b, c, d]
     } else {
-        let a = values::sample_at(input, i - 4);
-        let b = values::sample_at(input, i - 3);
-        let c = values::sample_at(input, i - 2);
-        let d = values::sample_at(input, i - 1);
+        let start = i - 1 - HIST;
+        let a = values::sample_at(input, start);
+        let b = values::sample_at(input, start + 1);
+        let c = values::sample_at(input, start + 2);
+        let d = values::sample_at(input, start + 3);
         [a, b, c, d]
     }
 }

@@ -66,19 +66,19 @@ fn play_lines(tally: &mut [u64; 16], damaged: &mut [u64; 16]) -> u64
 {
     let mut lines = asked::nothing();
     let mut played = play::start();
-    let mut heard = 0;
-    while heard < LINES {
+    let mut count = 0;
+    while count < LINES {
         let mut line = [0u8; 53];
         let n = io::read_full(STDIN_FILENO, &mut line);
         if n == 0 {
-            return heard;
+            return count;
         }
         let op = replay::read_operation(&line[..n]);
         lines = asked::note(lines, op);
         played = play_line(played, lines, op, &line[..n], tally, damaged);
-        heard += 1;
+        count += 1;
     }
-    heard
+    count
 }
 
 fn main() {

@@ -2,6 +2,7 @@
 use crate::call::call;
 use plain_receiver::Receiver;
 use replay::Operation;
+use replay::buffers::FILLING;
 use replay::f32_of;
 use replay::high;
 use replay::low;
@@ -14,9 +15,6 @@ ghost use Rattle.plain_receiver.specs.Receiver.{Given};
 
 // How many f32 a line has.
 const SIX: usize = 6;
-
-// The bits of the f32 that fills the buffers before a call: one that no ordinary signal makes.
-const FILLING: u32 = 0xdeadbeef;
 
 // Six f32, as a line has them.
 pub(crate) struct Six {

@@ -13,21 +13,25 @@ multiplier = 1664525
 abbrev pub increment : ℕ
 increment = 1013904223
 
-abbrev pub stepped : ℕ → ℕ
-stepped s = (multiplier * s + increment) % 2 ^ 32
+abbrev pub drawn : ℕ → ℕ
+drawn s = (multiplier * s + increment) % 2 ^ 32
 
 -- the symbol of a state: its top two bits are the number; number 0 is (1, 1), and each next one is a quarter turn on
-abbrev pub pointOf : ℕ → C32
-pointOf s = turns (s / 2 ^ 30) (record { re = one₀; im = one₀ })
+abbrev pub sentPoint : ℕ → C32
+sentPoint s = turns (s / 2 ^ 30) (record { re = one₀; im = one₀ })
 
 -- the carrier goes 0.0005 of a turn on from sample to sample
-abbrev pub phaseStep : ℕ
-phaseStep = 2147484
+abbrev pub sampleStep : ℕ
+sampleStep = 0x20c49c
 
--- the first symbol comes out of silence, a twelfth of a turn on
+-- a twelfth of a turn
+abbrev pub startPhase : ℕ
+startPhase = 0x15555555
+
+-- the first symbol comes out of silence, with the carrier a twelfth of a turn on
 abbrev pub started : Source
-started = record { state = stepped 1; from = silence; to = pointOf (stepped 1); phase = 357913941 }
+started = record { state = drawn 1; from = silence; to = sentPoint (drawn 1); phase = startPhase }
 
 -- a symbol on
 abbrev pub nextOf : Source → Source
-nextOf s = record { state = stepped (s .state); from = s .to; to = pointOf (stepped (s .state)); phase = (s .phase + 4 * phaseStep) % 2 ^ 32 }
+nextOf s = record { state = drawn (s .state); from = s .to; to = sentPoint (drawn (s .state)); phase = (s .phase + 4 * sampleStep) % 2 ^ 32 }

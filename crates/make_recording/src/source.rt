@@ -1,7 +1,7 @@
 // The symbols that are sent, and where the carrier stands.
 use values::C32;
 ghost use mathlib.Core.Path.{_≡_};
-ghost use Rattle.make_recording.specs.Source.{stepped, pointOf, started, nextOf};
+ghost use Rattle.make_recording.specs.Source.{drawn, sentPoint, started, nextOf};
 
 // The generator's state before the first symbol.
 const SEED: u32 = 1;
@@ -32,7 +32,7 @@ pub(crate) struct Source {
 
 // The generator's next state.
 fn step(state: u32) -> u32
-    ensures { λ r. ⌜ r ≡ stepped state ⌝ }
+    ensures { λ r. ⌜ r ≡ drawn state ⌝ }
 {
     ((MULTIPLIER * (state as u64) + INCREMENT) % MODULUS) as u32
 }
@@ -40,7 +40,7 @@ fn step(state: u32) -> u32
 // The symbol of a state. Its top two bits are the number: 0 is (1, 1), and each next one is a quarter
 // turn on.
 fn point(state: u32) -> C32
-    ensures { λ r. ⌜ r ≡ pointOf state ⌝ }
+    ensures { λ r. ⌜ r ≡ sentPoint state ⌝ }
 {
     let number = state / STATES_QUARTER;
     match number {

@@ -26,8 +26,8 @@ rounded s a c = wholeDown s (halfMore s a c) (2 * c)
 -- the phase step of an f32 v; a NaN gives 0
 unfoldable pub phaseStep : Float → ℕ
 phaseStep nan = 0
-phaseStep (inf s) = cond s 0 4294967295
-phaseStep (fin s m e) = cond (leb (2 ^ 31 * down e) (m * up e)) (cond s 0 4294967295) (wrapped s (rounded s (m * up e * 2 ^ 32) (down e)))
+phaseStep (inf s) = cond s 0 0xffffffff
+phaseStep (fin s m e) = cond (leb (2 ^ 31 * down e) (m * up e)) (cond s 0 0xffffffff) (wrapped s (rounded s (m * up e * 2 ^ 32) (down e)))
 
 -- ---- as the source computes it, in f64
 -- the size from which a cast to an `i64` gives an end of its range, -2^63 or 2^63 - 1
@@ -37,8 +37,8 @@ castEnd = 2 ^ 63
 -- floor(v) cast to an `i64`, and this wrapped into a `u32`
 unfoldable pub stepped : Float → ℕ
 stepped nan = 0
-stepped (inf s) = cond s 0 4294967295
-stepped (fin s m e) = cond (leb (castEnd * down e) (m * up e)) (cond s 0 4294967295) (wrapped s (wholeDown s (m * up e) (down e)))
+stepped (inf s) = cond s 0 0xffffffff
+stepped (fin s m e) = cond (leb (castEnd * down e) (m * up e)) (cond s 0 0xffffffff) (wrapped s (wholeDown s (m * up e) (down e)))
 
 -- x × k + 1/2, two roundings
 abbrev pub stepOf : Float → Float → ℕ

@@ -46,17 +46,17 @@ fn play_line(table: &[f32; 4097], line: &[u8], tally: &mut [u64; 16], damaged: &
 fn play_lines(table: &[f32; 4097], tally: &mut [u64; 16], damaged: &mut [u64; 16]) -> u64
     ensures { λ r. ⌜ Tallied r (now (tally .entry)) (now (tally .exit)) ⌝ }
 {
-    let mut heard = 0;
-    while heard < LINES {
+    let mut count = 0;
+    while count < LINES {
         let mut line = [0u8; 53];
         let n = io::read_full(STDIN_FILENO, &mut line);
         if n == 0 {
-            return heard;
+            return count;
         }
         play_line(table, &line[..n], tally, damaged);
-        heard += 1;
+        count += 1;
     }
-    heard
+    count
 }
 
 // The table is taken once, and lent from here on.

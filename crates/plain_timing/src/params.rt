@@ -10,16 +10,17 @@ ghost use Rattle.plain_timing.specs.Params.{paramsOf, paramsRecord, noPa
 // What a timing loop is set up with.
 #[repr(C)]
 pub struct TimingValues {
-    // Samples per symbol.
+    // Samples per symbol, 2 to 1,000,000.
     pub sps: f64,
     // 0 Gardner, 1 Mueller-Müller.
     pub ted: u32,
-    // Loop bandwidth, normalized to the symbol rate.
+    // Loop bandwidth, normalized to the symbol rate, 0.0001 to 0.1.
     pub loop_bw: f64,
+    // 0.1 to 4 (1/√2 is usual).
     pub damping: f64,
-    // Largest deviation of the spacing from sps, as a fraction of sps.
+    // Largest deviation of the spacing from sps, as a fraction of sps, 0 to 0.05.
     pub max_deviation: f64,
-    // Slope of the detector.
+    // Slope of the detector per symbol of offset, above 0.
     pub ted_gain: f64,
 }
 

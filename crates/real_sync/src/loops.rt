@@ -8,6 +8,7 @@ use strobe_clock::consumed;
 use strobe_clock::lacks;
 use strobe_clock::mid_left;
 use strobe_clock::mid_position;
+use timing::HIST;
 use timing::Params;
 use timing::Ted;
 use values::Progress;
@@ -37,7 +38,7 @@ fn at(h: Hist, input: &[f32], j: usize) -> f32
     if j == 2 {
         return h.c;
     }
-    input[j - 3]
+    input[j - HIST]
 }
 
 // The window of the position with integer part i: samples i - 1 to i + 2. Past the history it is read
@@ -46,17 +47,18 @@ fn window(h: Hist, input: &[f32], i: usize) -> [f32; 4]
     requires { ⌜ (1 ≤ i) × (i ≤ length (now input)) ⌝ }
     ensures { λ r. ⌜ r ≡ loop.windowAt real (line h (now (input .entry))) i ⌝ }
 {
-    if i < 4 {
+    if i <= HIST {
         let a = at(h, input, i - 1);
         let b = at(h, input, i);
         let c = at(h, input, i + 1);
         let d = at(h, input, i + 2);
         [a, b, c, d]
     } else {
-        let a = input[i - 4];
-        let b = input[i - 3];
-        let c = input[i - 2];
-        let d = input[i - 1];
+        let start = i - 1 - HIST;
+        let a = input[start];
+        let b = input[start + 1];
+        let c = input[start + 2];
+        let d = input[start + 3];
         [a, b, c, d]
     }
 }

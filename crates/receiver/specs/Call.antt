@@ -35,7 +35,7 @@ answered z zs ys = outcomeOf (z .answer) (z .receiver) zs ys
 
 -- "It counts symbols in 32 bits and stops at the top."
 abbrev pub top : ℕ
-top = 4294967295
+top = 0xffffffff
 
 unfoldable pub countAfter : ℕ → ℕ → ℕ
 countAfter count n = cond (ltb top (count + n)) top (count + n)

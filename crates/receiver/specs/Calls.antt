@@ -1,8 +1,8 @@
 -- "Turned recordings": a list of sample calls, each on the receiver that the last one left, and what is claimed of a second list that is the first turned k times, from a receiver whose carrier is m quarter turns on. Definitions only.
 use mathlib.Core.Path.{_≡_}
-use Prim.Native.Nat.{ℕ, _*_, _/_}
+use Prim.Native.Nat.{ℕ, _+_, _*_, _/_}
 use mathlib.Core.Bool.{Bool, true}
-use mathlib.Core.List.{List, _++_}
+use mathlib.Core.List.{List, [], _∷_, _++_}
 use lib.ListN.{length, take, drop}
 use lib.Ieee.{Float}
 use Rattle.values.specs.declared.sample.C32.{C32}
@@ -51,6 +51,11 @@ outcomes r cs = outcomesBy callOf leftBy r cs
 
 abbrev pub after : Receiver → List Call → Receiver
 after r cs = afterBy callOf leftBy r cs
+
+-- how many symbols the calls produced together
+unfoldable pub producedIn : List Outcome → ℕ
+producedIn [] = 0
+producedIn (o ∷ os) = o .produced + producedIn os
 
 -- ---- the second list, and what is claimed of it
 -- "The second list has the same buffer lengths and each input turned k times; where a call is refused, only lengths must agree."

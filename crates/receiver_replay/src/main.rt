@@ -178,12 +178,12 @@ fn play_lines(r: Receiver, tally: &mut [u64; 16], damaged: &mut [u64; 16]) -> u6
         second: r,
         turns: turned::none(),
     };
-    let mut heard = 0;
-    while heard < LINES {
+    let mut count = 0;
+    while count < LINES {
         let mut line = [0u8; 53];
         let n = io::read_full(STDIN_FILENO, &mut line);
         if n == 0 {
-            return heard;
+            return count;
         }
         pair = play_line(
             pair,
@@ -196,9 +196,9 @@ fn play_lines(r: Receiver, tally: &mut [u64; 16], damaged: &mut [u64; 16]) -> u6
             tally,
             damaged,
         );
-        heard += 1;
+        count += 1;
     }
-    heard
+    count
 }
 
 // Some receiver is there before the first line sets up its own.

@@ -32,8 +32,8 @@ pub(crate) fn next_turns(turns: Turns, op: Operation) -> Turns {
     let letter = op.letter;
     match letter {
         b'n' | b'u' => Turns {
-            samples: op.answer / 256 % 4,
-            phase: op.answer / 1024 % 4,
+            samples: op.answer / 0x100 % 4,
+            phase: op.answer / 0x400 % 4,
         },
         _ => turns,
     }

@@ -28,5 +28,5 @@ abbrev pub read : List ℕ → List Float → List Float
 read bs ys = sets ys 0 (take (2 * wholeSamples (length bs) (length ys)) (floats bs))
 
 -- bytes with these samples at their front, and the rest of them as found
-abbrev pub stored : List Float → List ℕ → List ℕ
-stored xs bs = sets bs 0 (bytes (take (2 * wholeSamples (length bs) (length xs)) xs))
+abbrev pub storedBytes : List Float → List ℕ → List ℕ
+storedBytes xs bs = sets bs 0 (bytes (take (2 * wholeSamples (length bs) (length xs)) xs))

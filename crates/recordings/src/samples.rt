@@ -4,7 +4,7 @@ use crate::bytes::least;
 use crate::bytes::store_f32;
 ghost use mathlib.Core.Path.{_≡_};
 ghost use lib.ListN.{length};
-ghost use Rattle.recordings.specs.Samples.{wholeSamples, read, stored};
+ghost use Rattle.recordings.specs.Samples.{wholeSamples, read, storedBytes};
 
 // How many whole samples there are in so many bytes and so many f32.
 fn whole(bytes: usize, parts: usize) -> usize
@@ -33,7 +33,7 @@ pub fn read_samples(bytes: &[u8], samples: &mut [f32]) -> usize
 // bytes. Answers how many. A NaN's bytes are those of 7fc00000.
 pub fn write_samples(samples: &[f32], bytes: &mut [u8]) -> usize
     ensures count { λ r. ⌜ r ≡ wholeSamples (length (now (bytes .entry))) (length (now (samples .entry))) ⌝ }
-    ensures bytes { λ _. ⌜ now (bytes .exit) ≡ stored (now (samples .entry)) (now (bytes .entry)) ⌝ }
+    ensures bytes { λ _. ⌜ now (bytes .exit) ≡ storedBytes (now (samples .entry)) (now (bytes .entry)) ⌝ }
 {
     let n = whole(bytes.len(), samples.len());
     let end = 2 * n;

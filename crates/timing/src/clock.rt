@@ -2,8 +2,10 @@
 ghost use mathlib.Core.Path.{_≡_};
 ghost use Rattle.timing.specs.Clock.{nextStrobe, settled};
 
-// How many samples the history has.
-const HIST: f64 = 3.0;
+// How many samples the history has, as a count and as a distance.
+pub const HIST: usize = 3;
+
+const HIST_SAMPLES: f64 = 3.0;
 
 #[repr(C)]
 pub struct Clock {
@@ -22,7 +24,7 @@ pub struct Clock {
 pub fn next_strobe(c: Clock) -> f64
     ensures { λ r. ⌜ r ≡ nextStrobe c ⌝ }
 {
-    (std::num::nearest_u64_to_f64(c.i as u64) - HIST) + c.mu
+    (std::num::nearest_u64_to_f64(c.i as u64) - HIST_SAMPLES) + c.mu
 }
 
 // A detector's error as the loop takes it: 0 on the first strobe, and 0 if it is not finite.

@@ -8,6 +8,7 @@ pub mod real;
 mod setup;
 
 pub use clock::Clock;
+pub use clock::HIST;
 pub use clock::next_strobe;
 pub use clock::settle;
 pub use params::Params;

@@ -100,12 +100,12 @@ fn play_lines(tally: &mut [u64; 16], damaged: &mut [u64; 16]) -> u64
     let mut input = [0.0f32; 192];
     let mut output = [0.0f32; 192];
     let mut slot = Slot::Empty;
-    let mut heard = 0;
-    while heard < LINES {
+    let mut count = 0;
+    while count < LINES {
         let mut line = [0u8; 53];
         let n = io::read_full(STDIN_FILENO, &mut line);
         if n == 0 {
-            return heard;
+            return count;
         }
         slot = play_line(
             slot,
@@ -116,9 +116,9 @@ fn play_lines(tally: &mut [u64; 16], damaged: &mut [u64; 16]) -> u64
             tally,
             damaged,
         );
-        heard += 1;
+        count += 1;
     }
-    heard
+    count
 }
 
 fn main() {

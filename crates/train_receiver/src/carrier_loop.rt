@@ -13,7 +13,8 @@ ghost use Rattle.plain.specs.Codes.{constellationOf};
 ghost use Rattle.plain_carrier.specs.Carrier.{stateOf, recordOf, setUpOf, outcomeOf, Given};
 ghost use Rattle.train_receiver.specs.Readings.{carrierReadings};
 
-// A fresh state, or the lowest number of what is wrong with the values.
+// A fresh state, or the lowest number of what is wrong with the values, whose ranges stand at
+// `CarrierValues`.
 #[no_mangle]
 pub extern "C" fn trr_carrier_set_up(constellation: u32, v: CarrierValues) -> CarrierSetUp
     ensures outcome { λ r. ⌜ r ≡ setUpOf (opened (constellationOf constellation) (v .«loop_bw») (v .damping) (v .«max_offset»)) ⌝ }

@@ -17,7 +17,8 @@ ghost use Rattle.plain.specs.Codes.{detectorOf};
 ghost use Rattle.plain_timing.specs.Params.{paramsOf, readingsOf};
 ghost use Rattle.plain_timing.specs.Complex.{syncOf, recordOf, setUpOf, outcomeOf, Given};
 
-// A fresh state, or the lowest number of what is wrong with the values.
+// A fresh state, or the lowest number of what is wrong with the values, whose ranges stand at
+// `TimingValues`.
 #[no_mangle]
 pub extern "C" fn trr_complex_set_up(v: TimingValues) -> ComplexSetUp
     ensures outcome { λ r. ⌜ r ≡ setUpOf (openedBy complexOps (tuned (v .sps) (detectorOf (v .ted)) (v .«loop_bw») (v .damping) (v .«max_deviation») (v .«ted_gain»))) ⌝ }

@@ -18,7 +18,8 @@ ghost use Rattle.plain.specs.Codes.{detectorOf};
 ghost use Rattle.plain_timing.specs.Params.{paramsOf, readingsOf};
 ghost use Rattle.plain_timing.specs.Real.{syncOf, recordOf, setUpOf, Given};
 
-// A fresh state, or the lowest number of what is wrong with the values.
+// A fresh state, or the lowest number of what is wrong with the values, whose ranges stand at
+// `TimingValues`.
 #[no_mangle]
 pub extern "C" fn trr_real_set_up(v: TimingValues) -> RealSetUp
     ensures outcome { λ r. ⌜ r ≡ setUpOf (openedBy realOps (tuned (v .sps) (detectorOf (v .ted)) (v .«loop_bw») (v .damping) (v .«max_deviation») (v .«ted_gain»))) ⌝ }

@@ -23,7 +23,7 @@ ghost use Rattle.plain_receiver.specs.Receiver.{valuesOf, receiverOf, recordOf,
 ghost use Rattle.train_receiver.specs.Readings.{receiverReadings};
 
 // A fresh receiver, or the number of what is wrong: all of timing's checks come before any of the
-// carrier's.
+// carrier's. The ranges stand at `TimingValues` and `CarrierValues`.
 #[no_mangle]
 pub extern "C" fn trr_receiver_set_up(
     constellation: u32,

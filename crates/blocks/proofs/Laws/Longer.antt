@@ -16,7 +16,7 @@ use Rattle.timing.specs.declared.clock.Clock.{Clock}
 use Rattle.timing.specs.Sample.{Ops}
 use Rattle.timing.specs.Clock.{midIndex, midPart}
 use Rattle.timing.specs.Loop.{Track, Strobes, lacks, there, valueAt, withMid, midTaken, strobed, ready, stopped, more, runs}
-use Rattle.timing.proofs.Laws.Loop.{held, valueHere}
+use Rattle.timing.proofs.Laws.Loop.{held-not-lacking, valueHere}
 use Rattle.timing.proofs.Laws.Taken.{middle, mid-by, mid-not-lacking}
 use Rattle.blocks.specs.Instants.{clocks}
 
@@ -53,7 +53,7 @@ module _ {A : Type 0} (o : Ops A) (p : Params) (l ys : List A) where
           let i = midIndex (s .clock) in
           let m = l ++ ys in
           ap (midTaken o p m) (mid-by o p l s h k)
-          ∙ sym (mid-not-lacking o p m (withMid s (middle o p l s)) (held (p .ted) (s .started)))
+          ∙ sym (mid-not-lacking o p m (withMid s (middle o p l s)) (held-not-lacking (p .ted) (s .started)))
           ∙ ap (withMid s) (sym (value-longer i (midPart (s .clock)) k))
           ∙ sym (mid-by o p m s h (there-longer i k))
       go true false h k = ap (midTaken o p (l ++ ys)) (mid-by o p l s h k)

@@ -23,7 +23,7 @@ use Rattle.receiver.specs.Record.{Given}
 use Rattle.receiver.specs.Call.{countAfter, refusedCall, done, accepts}
 use Rattle.receiver.specs.Calls.{Call, strobesOf, outputsOf}
 use Rattle.receiver.proofs.Laws.Refused.{accepted-done, refused-by}
-use Rattle.receiver.proofs.Laws.Count.{held-none, held-twice}
+use Rattle.receiver.proofs.Laws.Count.{count-none, count-twice}
 use Rattle.blocks.specs.Instants.{Instant, later, instants}
 use Rattle.blocks.specs.Timing.{goesOn, together}
 use Rattle.blocks.specs.Receiver.{Waiting, handed, callOn, waitsAfter, Heard, heardOn, joined, unheard}
@@ -68,7 +68,7 @@ received-joined r given xs ys n m fewer =
     let carriers = runs-together cosList (r .carrier .constellation) (r .carrier .params) (r .carrier .track) (q .values) (p .values) in
     let is = instants-together complex s xs ys n m fewer (given .timing) in
     let count = sym (length-append (q .values) (p .values)) in
-    let symbols = held-twice (r .count) (length (q .values)) (length (p .values)) ∙ ap (countAfter (r .count)) count in
+    let symbols = count-twice (r .count) (length (q .values)) (length (p .values)) ∙ ap (countAfter (r .count)) count in
     (λ j. record {
       strobes = q .values ++ p .values;
       outputs = u .values ++ v .values;
@@ -145,4 +145,4 @@ pub received-nothing : (r : Receiver) → Given r → (m : ℕ) → received r [
 unfolding runs
 received-nothing r given m =
     ap₂ (λ (t : Ran C32) (is : List Instant). assembled r t (carried r (t .values)) is) (ran-nothing complex (sync (r .timing)) (given .timing) m) (instants-nothing complex (sync (r .timing)) (given .timing) m)
-    ∙ (λ j. record { strobes = []; outputs = []; instants = []; consumed = 0; produced = 0; receiver = record { timing = r .timing; carrier = r .carrier; count = held-none (r .count) (given .count-in) j } })
+    ∙ (λ j. record { strobes = []; outputs = []; instants = []; consumed = 0; produced = 0; receiver = record { timing = r .timing; carrier = r .carrier; count = count-none (r .count) (given .count-in) j } })

@@ -42,7 +42,7 @@ inside-both t l = go (lt t zero₀) refl
         let limit = le-trans-float (neg l) (neg zero₀) zero₀ (neg-le zero₀ l (le-trans-float zero₀ t l above h)) (unfold le neg in tt) in
         (le-trans-float (neg l) zero₀ t limit above, h)
 
-pub kept-inside : (t limit : Float) {a : Float} → a ≡ sizeOf t → le a limit ≡ true → le (tiny binary32) a ≡ true → t ≡ limited (flushed binary32 t) limit
-kept-inside t limit e h k =
+pub untouched-inside : (t limit : Float) {a : Float} → a ≡ sizeOf t → le a limit ≡ true → le (tiny binary32) a ≡ true → t ≡ limited (flushed binary32 t) limit
+untouched-inside t limit e h k =
     let b = inside-both t limit (yes (ap (λ (x : Float). le x limit) (sym e) ∙ h)) in
     sym (ap (λ (x : Float). limited x limit) (not-flushed t (yes (ap (le (tiny binary32)) (sym e) ∙ k))) ∙ limit-inside t limit (b .0) (b .1))

@@ -1,5 +1,5 @@
--- `carrier_replay::play_lines` counts each line that it reads. The loop's invariant: the state is given, and so many lines are counted. The measure is how many may still come. Assumes nothing.
-use Prim.Native.Nat.{_-_}
+-- `carrier_replay::play_lines` counts each line that it plays. The loop's invariant: the state is given, and so many lines are counted. The measure is how many may still come. Assumes nothing.
+use Prim.Native.Nat.{_-_, _^_}
 use borrow.Author.Needs.{needs}
 use Rattle.carrier.specs.State.{Given}
 use Rattle.replay.specs.Tally.{Tallied, none}
@@ -8,10 +8,10 @@ use Rattle.carrier_replay.proofs.play_lines.Statement.{statement}
 use Rattle.carrier_replay.proofs.play_lines.Tie as tie
 
 abbrev Inv-loop : tie.InvT-loop
-Inv-loop tally₀ damaged₀ values₀ input₀ output₀ s₀ heard₀ tally damaged values input output s heard = Given s × Tallied heard tally₀ tally
+Inv-loop tally₀ damaged₀ values₀ input₀ output₀ s₀ count₀ tally damaged values input output s count = Given s × Tallied count tally₀ tally
 
 abbrev μ-loop : tie.MeasureT-loop
-μ-loop tally₀ damaged₀ values₀ input₀ output₀ s₀ heard₀ tally damaged values input output s heard = 67108864 - heard
+μ-loop tally₀ damaged₀ values₀ input₀ output₀ s₀ count₀ tally damaged values input output s count = 2 ^ 26 - count
 
 at-the-end : tie.Need-returns Inv-loop μ-loop
 at-the-end c = c .before .before .before .before .before .loop .inv .1

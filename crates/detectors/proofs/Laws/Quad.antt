@@ -16,7 +16,7 @@ use Rattle.ieee.specs.Fraction.{plus, less}
 use Rattle.ieee.proofs.Laws.Algebra.{add-swap, mul-negs}
 use Rattle.ieee.proofs.Laws.Order.{finite-number, not-le→lt, lt→le, lt→cross, less-none}
 use Rattle.ieee.proofs.Laws.Like.{like-refl, like-square, like-sub-x}
-use Rattle.ieee.proofs.Laws.NotFinite.{finite-difference, finite-product, quotient-nan, AtLeast, sum-at-least, difference-at-least, product-at-least, square-at-least, at-least-inf}
+use Rattle.ieee.proofs.Laws.NotFinite.{finite-difference, finite-product, quotient-nan, Reaches, sum-at-least, difference-at-least, product-at-least, square-at-least, at-least-inf}
 use Rattle.ieee.proofs.Laws.Scaled.{scaled-swap}
 use Rattle.values.specs.declared.sample.C32.{C32}
 use Rattle.values.specs.Turn.{turn, AlikeSample}
@@ -54,14 +54,14 @@ four-times-one : four₀ ⊗ one₀ ≡ four₀
 unfolding mul round
 four-times-one = refl
 
-square-overflows : (x : Float) → AtLeast large x → T (finite (square x)) → ⊥
+square-overflows : (x : Float) → Reaches large x → T (finite (square x)) → ⊥
 square-overflows x h = at-least-inf (square x) (rw large-squared at (product-at-least binary32 1 1 (pos 126) (pos 126) x x h h))
 
-four-itself : AtLeast four₀ four₀
+four-itself : Reaches four₀ four₀
 unfolding le
 four-itself h = tt
 
-module _ (a b : Float) (A : AtLeast large a) (B : AtLeast zero₀ b) where
+module _ (a b : Float) (A : Reaches large a) (B : Reaches zero₀ b) where
   -- t × t overflows
   total : T (finite (square (a ⊕ b))) → ⊥
   total = square-overflows (a ⊕ b) (rw large-and-nothing at (sum-at-least binary32 large zero₀ a b tt tt A B))
@@ -86,7 +86,7 @@ module _ (a b : Float) (A : AtLeast large a) (B : AtLeast zero₀ b) where
     where
       go : T (finite (four₀ ⊗ b ⊗ a)) → T (finite (square (b ⊖ a))) → (t : Bool) → (T t → T (le one₀ b)) → (T (not t) → T (le b one₀)) → ⊥
       go h k true u w =
-          let r : AtLeast four₀ (four₀ ⊗ b) = rw four-times-one at (product-at-least binary32 1 1 (pos 2) (pos 0) four₀ b four-itself (λ q. u tt)) in
+          let r : Reaches four₀ (four₀ ⊗ b) = rw four-times-one at (product-at-least binary32 1 1 (pos 2) (pos 0) four₀ b four-itself (λ q. u tt)) in
           at-least-inf (four₀ ⊗ b ⊗ a) (rw four-large at (product-at-least binary32 1 1 (pos 2) (pos 126) (four₀ ⊗ b) a r A)) h
       go h k false u w = square-overflows (a ⊖ b) (rw large-less-one at (difference-at-least binary32 large one₀ a b tt tt A (w tt))) (rw gap at k)
 
@@ -106,16 +106,16 @@ unfolding quad
 less-both a b e = λ j. (e j ⊖ gap b a j) ⊘ square (add-swap binary32 a b j)
 
 -- ---- any two squares
-sides : (a : Float) → AtLeast large a ⊎ (T (finite a) × T (lt a large))
+sides : (a : Float) → Reaches large a ⊎ (T (finite a) × T (lt a large))
 sides nan = inl absurd
 sides (inf s) = inl absurd
 sides (fin s m e) = go (le large (fin s m e)) (λ t. t) (not-le→lt large (fin s m e) tt tt)
   where
-    go : (t : Bool) → (T t → T (le large (fin s m e))) → (T (not t) → T (lt (fin s m e) large)) → AtLeast large (fin s m e) ⊎ (T true × T (lt (fin s m e) large))
+    go : (t : Bool) → (T t → T (le large (fin s m e))) → (T (not t) → T (lt (fin s m e) large)) → Reaches large (fin s m e) ⊎ (T true × T (lt (fin s m e) large))
     go true h k = inl (λ p. h tt)
     go false h k = inr (tt, k tt)
 
-quad-swap : (a b : Float) → T (fits binary32 a) → T (fits binary32 b) → AtLeast zero₀ a → AtLeast zero₀ b → quad a b ≡ quad b a
+quad-swap : (a b : Float) → T (fits binary32 a) → T (fits binary32 b) → Reaches zero₀ a → Reaches zero₀ b → quad a b ≡ quad b a
 quad-swap a b t u A B = elim (sides a) [
   | inl h ↦ large-first a b h B ∙ sym (large-second a b h B)
   | inr p ↦ elim (sides b) [

@@ -60,26 +60,26 @@ quotient-nan f (fin s m e) y p q = absurd (p tt)
 
 -- ---- lower bounds
 -- x is at least c, if it is finite
-abbrev pub AtLeast : Float → Float → Type 0
-AtLeast c x = T (finite x) → T (le c x)
+abbrev pub Reaches : Float → Float → Type 0
+Reaches c x = T (finite x) → T (le c x)
 
-pub sum-at-least : (f : Format) (c d x y : Float) → T (finite c) → T (finite d) → AtLeast c x → AtLeast d y → AtLeast (add f c d) (add f x y)
+pub sum-at-least : (f : Format) (c d x y : Float) → T (finite c) → T (finite d) → Reaches c x → Reaches d y → Reaches (add f c d) (add f x y)
 sum-at-least f c d x y C D a b h = let k = finite-sum f x y h in add-mono f c x d y C (k .0) D (k .1) (a (k .0)) (b (k .1))
 
-pub difference-at-least : (f : Format) (c d x y : Float) → T (finite c) → T (finite d) → AtLeast c x → T (le y d) → AtLeast (sub f c d) (sub f x y)
+pub difference-at-least : (f : Format) (c d x y : Float) → T (finite c) → T (finite d) → Reaches c x → T (le y d) → Reaches (sub f c d) (sub f x y)
 difference-at-least f c d x y C D a b h = let k = finite-difference f x y h in sub-mono f c x d y C (k .0) D (k .1) (a (k .0)) b
 
 from-zero : (m : ℕ) (e : ℤ) → T (le zero₀ (fin false m e))
 from-zero m e = cross→le zero₀ (fin false m e) tt tt (omega arith)
 
-pub product-at-least : (f : Format) (m n : ℕ) (e d : ℤ) (x y : Float) → AtLeast (fin false m e) x → AtLeast (fin false n d) y → AtLeast (mul f (fin false m e) (fin false n d)) (mul f x y)
+pub product-at-least : (f : Format) (m n : ℕ) (e d : ℤ) (x y : Float) → Reaches (fin false m e) x → Reaches (fin false n d) y → Reaches (mul f (fin false m e) (fin false n d)) (mul f x y)
 product-at-least f m n e d x y a b h =
     let k = finite-product f x y h in
     let c = fin false m e in
     mul-mono f c x (fin false n d) y tt (k .0) tt (k .1) (le-trans-float zero₀ c x (from-zero m e) (a (k .0))) (from-zero n d) (a (k .0)) (b (k .1))
 
 -- a square has no minus sign
-pub square-at-least : (f : Format) (x : Float) → AtLeast zero₀ (mul f x x)
+pub square-at-least : (f : Format) (x : Float) → Reaches zero₀ (mul f x x)
 unfolding neg
 square-at-least f x h = go x (finite-product f x x h .0)
   where
@@ -91,6 +91,6 @@ square-at-least f x h = go x (finite-product f x x h .0)
     go (fin true m e) p = rw (mul-negs f (fin false m e) (fin false m e)) (plain m e)
 
 -- what is at least an infinity
-pub at-least-inf : (x : Float) → AtLeast (inf false) x → T (finite x) → ⊥
+pub at-least-inf : (x : Float) → Reaches (inf false) x → T (finite x) → ⊥
 unfolding le
 at-least-inf (fin s m e) a h = a tt

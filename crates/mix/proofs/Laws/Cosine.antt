@@ -16,7 +16,7 @@ unfolding cosList cosBits ofBits round add sub mul
 cosine-start = refl
 
 -- half an entry on: 1 - 10 × 2^-24, where entry 1 is 1 - 20 × 2^-24, and half of the sine there
-pub cosine-midway : pairAt cosList (2 ^ 19) ≡ record { c = ofBits binary32 1065353206; s = mul binary32 (cosAt 3073) half₀ }
+pub cosine-midway : pairAt cosList (2 ^ 19) ≡ record { c = ofBits binary32 0x3f7ffff6; s = mul binary32 (cosAt 3073) half₀ }
 unfolding cosList cosBits ofBits round add sub mul
 cosine-midway = refl
 

@@ -225,7 +225,7 @@ module _ (s : Bool) (m : ℕ) (e : ℤ) (t : T (fits binary32 (fin s m e))) wher
       small C h g = omega arith
 
 -- from 2^31 up in size both are at the same end
-far-step : (s : Bool) (m : ℕ) (e : ℤ) → T (finite (mul binary64 (fin s m e) turn₀)) → 2 ^ 31 * down e ≤ m * up e → cond s 0 4294967295 ≡ stepped (sum (fin s m e))
+far-step : (s : Bool) (m : ℕ) (e : ℤ) → T (finite (mul binary64 (fin s m e) turn₀)) → 2 ^ 31 * down e ≤ m * up e → cond s 0 0xffffffff ≡ stepped (sum (fin s m e))
 unfolding add mul neg
 far-step false m e f h =
     let v = fin false m e in

@@ -68,7 +68,7 @@ stepped-at (fin s m e) p n c a b r C v h f g =
     let x = fin s m e in
     let d = wholeDown s (m * up e) (down e) in
     wrapped-unique s d a b r (floor-one (plus x) (less x) (down e) a b (cond s 0 d) (cond s d 0) (floor-same p n c (plus x) (less x) (down e) a b C (down-pos e) (sym (v .1)) f) (own-floor s m e)) g
-    ∙ sym (ap (λ (t : Bool). cond t (cond s 0 4294967295) (wrapped s d)) (lt-leb (castEnd * down e) (m * up e) (own-size s m e p n c v h)))
+    ∙ sym (ap (λ (t : Bool). cond t (cond s 0 0xffffffff) (wrapped s d)) (lt-leb (castEnd * down e) (m * up e) (own-size s m e p n c v h)))
 
 pub stepped-own : (v : Float) (r : ℕ) → T (finite v) → Sized (2 ^ 63) (plus v) (less v) (den v) → Wraps r (floorPlus v) (floorLess v) → r ≡ stepped v
 stepped-own v r p h w = stepped-at v (plus v) (less v) (den v) (floorPlus v) (floorLess v) r (den-pos v) (own-val v p) h (record { under = floor-under v p; next = floor-next v p }) w
@@ -78,13 +78,13 @@ abbrev pub end : Float
 end = fin false 1 (pos 63)
 
 -- from there up
-pub stepped-top : (w : Float) → T (le end w) → 4294967295 ≡ stepped w
+pub stepped-top : (w : Float) → T (le end w) → 0xffffffff ≡ stepped w
 unfolding stepped
 stepped-top nan h = absurd (unfold le in h)
 stepped-top (inf true) h = absurd (unfold le in h)
 stepped-top (inf false) h = refl
 stepped-top (fin false m e) h =
-    sym (ap (λ (t : Bool). cond t 4294967295 (wrapped false (wholeDown false (m * up e) (down e)))) (le-leb (castEnd * down e) (m * up e) (let k = le→cross end (fin false m e) tt tt h in omega arith)))
+    sym (ap (λ (t : Bool). cond t 0xffffffff (wrapped false (wholeDown false (m * up e) (down e)))) (le-leb (castEnd * down e) (m * up e) (let k = le→cross end (fin false m e) tt tt h in omega arith)))
 stepped-top (fin true m e) h = let k = le→cross end (fin true m e) tt tt h in let d = down-pos e in absurd (lt-irrefl 0 (omega arith))
 
 -- and from -2^63 down
@@ -113,6 +113,6 @@ phase-step-floor s m e h =
     (cond s 0 k, cond s k 0, turn-floor s m e, rw (lt-leb (2 ^ 31 * down e) (m * up e) h) (wrapped-is s k))
 
 -- from there up the end
-pub phase-step-end : (s : Bool) (m : ℕ) (e : ℤ) → 2 ^ 31 * down e ≤ m * up e → phaseStep (fin s m e) ≡ cond s 0 4294967295
+pub phase-step-end : (s : Bool) (m : ℕ) (e : ℤ) → 2 ^ 31 * down e ≤ m * up e → phaseStep (fin s m e) ≡ cond s 0 0xffffffff
 unfolding phaseStep
 phase-step-end s m e h = rw (le-leb (2 ^ 31 * down e) (m * up e) h)

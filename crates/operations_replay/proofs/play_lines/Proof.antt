@@ -1,5 +1,5 @@
--- `operations_replay::play_lines` counts each line that it reads. The loop's invariant: so many are counted. The measure is how many may still come. Assumes nothing.
-use Prim.Native.Nat.{_-_}
+-- `operations_replay::play_lines` counts each line that it plays. The loop's invariant: so many are counted. The measure is how many may still come. Assumes nothing.
+use Prim.Native.Nat.{_-_, _^_}
 use borrow.Author.Needs.{needs}
 use Rattle.replay.specs.Tally.{Tallied, none}
 use Rattle.replay.proofs.Laws.Tallied.{tallied-on}
@@ -7,10 +7,10 @@ use Rattle.operations_replay.proofs.play_lines.Statement.{statement}
 use Rattle.operations_replay.proofs.play_lines.Tie as tie
 
 abbrev Inv-loop : tie.InvT-loop
-Inv-loop table tally₀ damaged₀ heard₀ tally damaged heard = Tallied heard tally₀ tally
+Inv-loop table tally₀ damaged₀ count₀ tally damaged count = Tallied count tally₀ tally
 
 abbrev μ-loop : tie.MeasureT-loop
-μ-loop table tally₀ damaged₀ heard₀ tally damaged heard = 67108864 - heard
+μ-loop table tally₀ damaged₀ count₀ tally damaged count = 2 ^ 26 - count
 
 at-the-end : tie.Need-returns Inv-loop μ-loop
 at-the-end c = c .before .before .before .before .before .loop .inv

@@ -54,9 +54,9 @@ abbrev pub withTiming : SymbolSyncState → carrierAnswer.SetUp → SetUp
 withTiming s (carrierSetUp.Ready c) = Ready (record { timing = s; carrier = c; count = 0 })
 withTiming s (carrierSetUp.Refused n) = Refused n
 
-abbrev pub joined : Tuning → carrierAnswer.SetUp → SetUp
-joined (tuning.Accepted p) a = withTiming (stateOf (run.fresh complex p)) a
-joined (tuning.Refused n) a = Refused n
+abbrev pub joinedAnswer : Tuning → carrierAnswer.SetUp → SetUp
+joinedAnswer (tuning.Accepted p) a = withTiming (stateOf (run.fresh complex p)) a
+joinedAnswer (tuning.Refused n) a = Refused n
 
 abbrev pub tunedBy : TimingValues → Tuning
 tunedBy t = tuned (t .sps) (t .ted) (t .«loop_bw») (t .damping) (t .«max_deviation») (t .«ted_gain»)
@@ -64,24 +64,24 @@ tunedBy t = tuned (t .sps) (t .ted) (t .«loop_bw») (t .damping) (t .«max_devi
 abbrev pub carrierBy : CostasConstellation → CarrierValues → carrierAnswer.SetUp
 carrierBy k c = carrier.opened k (c .«loop_bw») (c .damping) (c .«max_offset»)
 
-pub opened-joined : (k : CostasConstellation) (t : TimingValues) (c : CarrierValues) → opened k t c ≡ joined (tunedBy t) (carrierBy k c)
+pub opened-joined : (k : CostasConstellation) (t : TimingValues) (c : CarrierValues) → opened k t c ≡ joinedAnswer (tunedBy t) (carrierBy k c)
 unfolding opened tuned carrier.opened
 opened-joined k t c =
     let p = timingParams t in
     let q = carrierSetUp.Ready (carrier.fresh k (carrierParamsOf c)) in
     let a = firstOf carrierSetUp.Refused (carrierRows c) q in
-    first-append Refused (timingRows t) (carrierRows c) (joined (tuning.Accepted p) q)
-    ∙ ap (firstOf Refused (timingRows t)) (sym (first-map (joined (tuning.Accepted p)) carrierSetUp.Refused (carrierRows c) q))
-    ∙ sym (first-map (λ (x : Tuning). joined x a) tuning.Refused (timingRows t) (tuning.Accepted p))
+    first-append Refused (timingRows t) (carrierRows c) (joinedAnswer (tuning.Accepted p) q)
+    ∙ ap (firstOf Refused (timingRows t)) (sym (first-map (joinedAnswer (tuning.Accepted p)) carrierSetUp.Refused (carrierRows c) q))
+    ∙ sym (first-map (λ (x : Tuning). joinedAnswer x a) tuning.Refused (timingRows t) (tuning.Accepted p))
 
 -- ---- by what timing's set-up answered
 same-sync : (s u : Sync C32) → run.opened s ≡ run.opened u → s ≡ u
 same-sync s u e = cc
 
-pub after-ready : (s : SymbolSyncState) (x : Tuning) (a : carrierAnswer.SetUp) → run.opened (sync s) ≡ openedBy complex x → joined x a ≡ withTiming s a
+pub after-ready : (s : SymbolSyncState) (x : Tuning) (a : carrierAnswer.SetUp) → run.opened (sync s) ≡ openedBy complex x → joinedAnswer x a ≡ withTiming s a
 after-ready s (tuning.Accepted p) a e = ap (λ (u : Sync C32). withTiming (stateOf u) a) (sym (same-sync _ _ e))
 after-ready s (tuning.Refused n) a e = let z : _≡_ {A = ℕ} 0 1 = cc in absurd (omega arith)
 
-pub after-refused : (n : Refusal) (x : Tuning) (a : carrierAnswer.SetUp) → run.refused n ≡ openedBy complex x → joined x a ≡ Refused n
+pub after-refused : (n : Refusal) (x : Tuning) (a : carrierAnswer.SetUp) → run.refused n ≡ openedBy complex x → joinedAnswer x a ≡ Refused n
 after-refused n (tuning.Accepted p) a e = let z : _≡_ {A = ℕ} 0 1 = cc in absurd (omega arith)
 after-refused n (tuning.Refused m) a e = let h : m ≡ n = cc in ap Refused h

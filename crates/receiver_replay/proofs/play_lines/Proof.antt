@@ -1,5 +1,5 @@
--- `receiver_replay::play_lines` counts each line that it reads. The loop's invariant: both receivers are given, and so many lines are counted. The measure is how many may still come. Assumes nothing.
-use Prim.Native.Nat.{_-_}
+-- `receiver_replay::play_lines` counts each line that it plays. The loop's invariant: both receivers are given, and so many lines are counted. The measure is how many may still come. Assumes nothing.
+use Prim.Native.Nat.{_-_, _^_}
 use native.Mathlib.Omega.{arith}
 use borrow.Author.Needs.{needs}
 use Rattle.receiver.specs.Record.{Given}
@@ -9,10 +9,10 @@ use Rattle.receiver_replay.proofs.play_lines.Statement.{statement}
 use Rattle.receiver_replay.proofs.play_lines.Tie as tie
 
 abbrev Inv-loop : tie.InvT-loop
-Inv-loop tally₀ damaged₀ timing₀ carrier₀ input₀ strobes₀ output₀ pair₀ heard₀ tally damaged timing carrier input strobes output pair heard = (Given (pair .first) × Given (pair .second)) × Tallied heard tally₀ tally
+Inv-loop tally₀ damaged₀ timing₀ carrier₀ input₀ strobes₀ output₀ pair₀ count₀ tally damaged timing carrier input strobes output pair count = (Given (pair .first) × Given (pair .second)) × Tallied count tally₀ tally
 
 abbrev μ-loop : tie.MeasureT-loop
-μ-loop tally₀ damaged₀ timing₀ carrier₀ input₀ strobes₀ output₀ pair₀ heard₀ tally damaged timing carrier input strobes output pair heard = 67108864 - heard
+μ-loop tally₀ damaged₀ timing₀ carrier₀ input₀ strobes₀ output₀ pair₀ count₀ tally damaged timing carrier input strobes output pair count = 2 ^ 26 - count
 
 at-the-end : tie.Need-returns Inv-loop μ-loop
 at-the-end c = c .before .before .before .before .before .loop .inv .1
@@ -20,7 +20,7 @@ at-the-end c = c .before .before .before .before .before .loop .inv .1
 may-play : tie.Need-play-line-requires Inv-loop μ-loop
 may-play c κs = c .before .before .before .before .before .before .before .before .before .before .before .before .before .loop .inv .0
 
-one-more : tie.Need-add-heard Inv-loop μ-loop
+one-more : tie.Need-add-count Inv-loop μ-loop
 one-more c = omega (arith, c .before .before .before .before .before .before .before .before .before .before .before .before .before .loop-test .taken)
 
 fewer : tie.Need-loop-less Inv-loop μ-loop

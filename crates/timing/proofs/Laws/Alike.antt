@@ -19,7 +19,7 @@ pub record AlikeClock (c d : Clock) : Type 0 where
   pub place : c .i ≡ d .i
   pub fraction : Alike (c .mu) (d .mu)
   pub spacing : Alike (c .omega) (d .omega)
-  pub held : Alike (c .integ) (d .integ)
+  pub integrator : Alike (c .integ) (d .integ)
 
 -- ---- a place, moved by v
 same-whole : {i j : ℕ} {v w : Float} → i ≡ j → Alike v w → wholeAt i v ≡ wholeAt j w
@@ -48,7 +48,7 @@ module _ {c d : Clock} (h : AlikeClock c d) where
   module _ (p : Params) {a b : Float} (e : Alike a b) where
     alike-integ : Alike (newInteg p c a) (newInteg p d b)
     unfolding newInteg
-    alike-integ = alike-limit (like-flush binary64 (like-add binary64 (h .held) (like-mul-r binary64 (like-refl (p .ki)) e))) (like-refl (p .lim))
+    alike-integ = alike-limit (like-flush binary64 (like-add binary64 (h .integrator) (like-mul-r binary64 (like-refl (p .ki)) e))) (like-refl (p .lim))
 
     alike-omega : Alike (newOmega p c a) (newOmega p d b)
     unfolding newOmega
@@ -60,7 +60,7 @@ module _ {c d : Clock} (h : AlikeClock c d) where
 
     pub alike-advanced : AlikeClock (advanced p c a) (advanced p d b)
     unfolding advanced
-    alike-advanced = record { place = same-whole (h .place) alike-moved; fraction = alike-part alike-moved; spacing = alike-omega; held = alike-integ }
+    alike-advanced = record { place = same-whole (h .place) alike-moved; fraction = alike-part alike-moved; spacing = alike-omega; integrator = alike-integ }
 
 pub alike-settled : {s t : Bool} {a b : Float} → s ≡ t → Alike a b → Alike (settled s a) (settled t b)
 unfolding settled

@@ -22,11 +22,11 @@ abbrev pub TrackRunning : {A : Type 0} → Params → ℕ → Track A → Type 0
 TrackRunning p n s = Running p (s .clock) (lacks p s) n
 
 -- a middle that is held is not lacking
-pub held : (d : Ted) (started : Bool) → lacking d started true ≡ false
+pub held-not-lacking : (d : Ted) (started : Bool) → lacking d started true ≡ false
 unfolding lacking
-held Gardner true = refl
-held Gardner false = refl
-held MuellerMuller started = refl
+held-not-lacking Gardner true = refl
+held-not-lacking Gardner false = refl
+held-not-lacking MuellerMuller started = refl
 
 -- the value at a track's place
 abbrev pub valueHere : {A : Type 0} → Ops A → List A → Track A → A
@@ -95,7 +95,7 @@ module _ {A : Type 0} (o : Ops A) (p : Params) (l : List A) where
     midTaken-running s g = go (lacks p s && there l (midIndex (s .clock))) (valueAt o l (midIndex (s .clock)) (midPart (s .clock)))
       where
         go : (b : Bool) (m : A) → TrackRunning p n (cond b (withMid s m) s)
-        go true m = subst (λ (b : Bool). Running p (s .clock) b n) (sym (held (p .ted) (s .started))) (running-ready p (s .clock) (lacks p s) n g)
+        go true m = subst (λ (b : Bool). Running p (s .clock) b n) (sym (held-not-lacking (p .ted) (s .started))) (running-ready p (s .clock) (lacks p s) n g)
         go false m = g
 
     pub strobed-running : (s : Track A) (y : A) → ready p l s ≡ true → TrackRunning p n s → TrackRunning p n (strobed o p s y)
@@ -121,7 +121,7 @@ module _ {A : Type 0} (o : Ops A) (p : Params) (l : List A) where
     mid-far s = go (lacks p s) (there l (midIndex (s .clock))) (valueAt o l (midIndex (s .clock)) (midPart (s .clock))) (λ h. h) (nltb→le (midIndex (s .clock) + 2) (length l))
       where
         go : (a b : Bool) (m : A) → (T (lacks p s) → T a) → (T (not b) → length l ≤ midIndex (s .clock) + 2) → let t = cond (a && b) (withMid s m) s in T (lacks p t) → n < midIndex (t .clock)
-        go true true m e f h = absurd (subst T (held (p .ted) (s .started)) h)
+        go true true m e f h = absurd (subst T (held-not-lacking (p .ted) (s .started)) h)
         go true false m e f h = let k = f tt in omega arith
         go false b m e f h = absurd (e h)
 

@@ -104,7 +104,7 @@ tied-back : {k : ℕ} {s t : Track C32} (n : ℕ) → Tied k s t → Tied k (tra
 unfolding trackBack
 tied-back n h =
     let c = h .clock in
-    record { clock = record { place = ap (λ (i : ℕ). i - n) (c .place); fraction = c .fraction; spacing = c .spacing; held = c .held }; yPrev = h .yPrev; dPrev = h .dPrev; mid = h .mid; midReady = h .midReady; started = h .started }
+    record { clock = record { place = ap (λ (i : ℕ). i - n) (c .place); fraction = c .fraction; spacing = c .spacing; integrator = c .integrator }; yPrev = h .yPrev; dPrev = h .dPrev; mid = h .mid; midReady = h .midReady; started = h .started }
 
 -- ---- a state
 pub record TiedHist (k : ℕ) (g h : Hist C32) : Type 0 where
@@ -124,7 +124,7 @@ tied-fresh k p =
     record {
       params = refl;
       hist = record { a = z; b = z; c = z };
-      track = record { clock = record { place = refl; fraction = like-refl zero₀; spacing = like-refl (p .sps); held = like-refl zero₀ }; yPrev = z; dPrev = z; mid = z; midReady = refl; started = refl };
+      track = record { clock = record { place = refl; fraction = like-refl zero₀; spacing = like-refl (p .sps); integrator = like-refl zero₀ }; yPrev = z; dPrev = z; mid = z; midReady = refl; started = refl };
     }
 
 -- ---- a run

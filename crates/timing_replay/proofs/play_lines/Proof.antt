@@ -1,5 +1,5 @@
--- `timing_replay::play_lines` counts each line that it reads. The loop's invariant: the state is given, and so many lines are counted. The measure is how many may still come. Assumes nothing.
-use Prim.Native.Nat.{_-_}
+-- `timing_replay::play_lines` counts each line that it plays. The loop's invariant: the state is given, and so many lines are counted. The measure is how many may still come. Assumes nothing.
+use Prim.Native.Nat.{_-_, _^_}
 use borrow.Author.Needs.{needs}
 use Rattle.timing_replay.specs.Slot.{SlotGiven}
 use Rattle.replay.specs.Tally.{Tallied, none}
@@ -8,10 +8,10 @@ use Rattle.timing_replay.proofs.play_lines.Statement.{statement}
 use Rattle.timing_replay.proofs.play_lines.Tie as tie
 
 abbrev Inv-loop : tie.InvT-loop
-Inv-loop tally₀ damaged₀ values₀ input₀ output₀ slot₀ heard₀ tally damaged values input output slot heard = SlotGiven slot × Tallied heard tally₀ tally
+Inv-loop tally₀ damaged₀ values₀ input₀ output₀ slot₀ count₀ tally damaged values input output slot count = SlotGiven slot × Tallied count tally₀ tally
 
 abbrev μ-loop : tie.MeasureT-loop
-μ-loop tally₀ damaged₀ values₀ input₀ output₀ slot₀ heard₀ tally damaged values input output slot heard = 67108864 - heard
+μ-loop tally₀ damaged₀ values₀ input₀ output₀ slot₀ count₀ tally damaged values input output slot count = 2 ^ 26 - count
 
 at-the-end : tie.Need-returns Inv-loop μ-loop
 at-the-end c = c .before .before .before .before .before .loop .inv .1

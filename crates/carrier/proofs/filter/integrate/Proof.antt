@@ -2,7 +2,7 @@
 use mathlib.Core.Path.{ap, _∙_}
 use lib.Ieee.{Float, ofBits, round}
 use Rattle.numbers.specs.Range.{limited}
-use Rattle.carrier.proofs.Laws.Untouched.{kept-inside}
+use Rattle.carrier.proofs.Laws.Untouched.{untouched-inside}
 use borrow.Author.Needs.{needs}
 use Rattle.carrier.proofs.filter.integrate.Statement.{statement}
 use Rattle.carrier.proofs.filter.integrate.Tie as tie
@@ -12,7 +12,7 @@ use Rattle.numbers.proofs.limit_f32.Reads as limit-f32-reads
 
 returns : tie.Need-returns
 unfolding ofBits round
-returns c = let a = c .before .before .before .args in kept-inside (a .t) (a .limit) (c .before .before .size .ensures) (c .before .if1 .taken) (c .if2 .taken)
+returns c = let a = c .before .before .before .args in untouched-inside (a .t) (a .limit) (c .before .before .size .ensures) (c .before .if1 .taken) (c .if2 .taken)
 
 returns-2 : tie.Need-returns-2
 returns-2 c = let a = c .before .before .before .before .args in c .limit-f32 .ensures ∙ ap (λ (x : Float). limited x (a .limit)) (c .before .flush-denormal .ensures)

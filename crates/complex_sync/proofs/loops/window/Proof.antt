@@ -17,17 +17,17 @@ unfolding ofBits
 returns-2 c =
     let a = c .before .before .before .before .before .before .args in
     let i = a .i in
+    let start = i - 1 - 3 in
     let past = past-history (hist (a .h)) (samples (a .input .now)) (complex .zero) in
-    let w = c .before .before .before .sample-at .ensures ∙ past (i - 1) (i - 4) (omega arith) in
-    let x = c .before .before .sample-at2 .ensures ∙ past i (i - 3) (omega arith) in
-    let y = c .before .sample-at3 .ensures ∙ past (i + 1) (i - 2) (omega arith) in
-    let z = c .sample-at4 .ensures ∙ past (i + 2) (i - 1) (omega arith) in
+    let w = c .before .before .before .sample-at .ensures ∙ past (i - 1) start (omega arith) in
+    let x = c .before .before .sample-at2 .ensures ∙ past i (start + 1) (omega arith) in
+    let y = c .before .sample-at3 .ensures ∙ past (i + 1) (start + 2) (omega arith) in
+    let z = c .sample-at4 .ensures ∙ past (i + 2) (start + 3) (omega arith) in
     λ j. w j ∷ x j ∷ y j ∷ z j ∷ []
 
 pub window-spec : {M : Type 1} → statement M
 window-spec =
     tie.close
-    (tie.spec (λ c. search needs) (λ c κs. search needs) (λ c κs. search needs) (λ c. search needs)
-    (λ c κs. search needs) (λ c. search needs) (λ c κs. search needs) (λ c κs. search needs) (λ c. search needs)
-    (λ c κs. search needs) (λ c. search needs) (λ c κs. search needs) (λ c. search needs) (λ c κs. search needs)
-    (λ c. search needs) returns-2)
+    (tie.spec (search needs) (search needs) (search needs) (search needs) (search needs) (search needs)
+    (search needs) (search needs) (search needs) (search needs) (search needs) (search needs) (search needs)
+    (search needs) (search needs) (search needs) (λ c. search needs) returns-2)

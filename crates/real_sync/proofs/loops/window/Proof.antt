@@ -14,17 +14,18 @@ returns-2 : tie.Need-returns-2
 returns-2 c =
     let a = c .before .before .before .before .before .before .args in
     let i = a .i in
+    let start = i - 1 - 3 in
     let past = past-history-read (hist (a .h)) (a .input .now) nan (real .zero) in
-    let w = past (i - 1) (i - 4) (omega arith) (omega arith) in
-    let x = past i (i - 3) (omega arith) (omega arith) in
-    let y = past (i + 1) (i - 2) (omega arith) (omega arith) in
-    let z = past (i + 2) (i - 1) (omega arith) (omega arith) in
+    let w = past (i - 1) start (omega arith) (omega arith) in
+    let x = past i (start + 1) (omega arith) (omega arith) in
+    let y = past (i + 1) (start + 2) (omega arith) (omega arith) in
+    let z = past (i + 2) (start + 3) (omega arith) (omega arith) in
     λ j. w j ∷ x j ∷ y j ∷ z j ∷ []
 
 pub window-spec : {M : Type 1} → statement M
 window-spec =
     tie.close
-    (tie.spec (λ c. search needs) (λ c κs. search needs) (λ c κs. search needs) (λ c. search needs)
-    (λ c κs. search needs) (λ c. search needs) (λ c κs. search needs) (λ c. search needs) (λ c. search needs)
-    (λ c. search needs) (λ c. search needs) (λ c. search needs) (λ c. search needs) (λ c. search needs)
-    (λ c. search needs) (λ c. search needs) (λ c. search needs) (λ c. search needs) (λ c. search needs) returns-2)
+    (tie.spec (search needs) (search needs) (search needs) (search needs) (search needs) (search needs)
+    (search needs) (search needs) (search needs) (search needs) (search needs) (search needs) (search needs)
+    (search needs) (search needs) (search needs) (search needs) (search needs) (search needs) (search needs)
+    (λ c. search needs) returns-2)

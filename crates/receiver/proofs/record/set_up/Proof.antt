@@ -7,14 +7,14 @@ use Rattle.complex_sync.specs.Views.{opening}
 use Rattle.carrier.specs.declared.state.SetUp as carrierSetUp
 use Rattle.carrier.specs.State.{SetUpGiven}
 use Rattle.receiver.specs.Record.{opened}
-use Rattle.receiver.proofs.Laws.Setup.{withTiming, joined, tunedBy, opened-joined, after-ready, after-refused}
+use Rattle.receiver.proofs.Laws.Setup.{withTiming, joinedAnswer, tunedBy, opened-joined, after-ready, after-refused}
 use borrow.Author.Needs.{needs}
 use Rattle.receiver.proofs.record.set_up.Statement.{statement}
 use Rattle.receiver.proofs.record.set_up.Tie as tie
 
 -- what the definition opens, with the carrier's answer put in
-answers : (c : tie.After-set-up2) → let a = c .before .before .before .before .before .args in opened (a .constellation) (a .t) (a .c) ≡ joined (tunedBy (a .t)) (c .set-up2 .result)
-answers c = let a = c .before .before .before .before .before .args in opened-joined (a .constellation) (a .t) (a .c) ∙ ap (joined (tunedBy (a .t))) (sym (c .set-up2 .ensures .0))
+answers : (c : tie.After-set-up2) → let a = c .before .before .before .before .before .args in opened (a .constellation) (a .t) (a .c) ≡ joinedAnswer (tunedBy (a .t)) (c .set-up2 .result)
+answers c = let a = c .before .before .before .before .before .args in opened-joined (a .constellation) (a .t) (a .c) ∙ ap (joinedAnswer (tunedBy (a .t))) (sym (c .set-up2 .ensures .0))
 
 -- and with the timing state that was bound
 joins : (c : tie.After-set-up2) → let a = c .before .before .before .before .before .args in opened (a .constellation) (a .t) (a .c) ≡ withTiming (c .before .before .answer .given .0 .0) (c .set-up2 .result)
