@@ -58,11 +58,11 @@ fn window(h: Hist, input: &[f32], i: usize) -> [C32; 4]
         let d = at(h, input, i + 2);
         [a, b, c, d]
     } else {
-        let start = i - 1 - HIST;
-        let a = values::sample_at(input, start);
-        let b = values::sample_at(input, start + 1);
-        let c = values::sample_at(input, start + 2);
-        let d = values::sample_at(input, start + 3);
+        let j = i - HIST;
+        let a = values::sample_at(input, j - 1);
+        let b = values::sample_at(input, j);
+        let c = values::sample_at(input, j + 1);
+        let d = values::sample_at(input, j + 2);
         [a, b, c, d]
     }
 }

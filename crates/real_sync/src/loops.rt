@@ -54,11 +54,11 @@ fn window(h: Hist, input: &[f32], i: usize) -> [f32; 4]
         let d = at(h, input, i + 2);
         [a, b, c, d]
     } else {
-        let start = i - 1 - HIST;
-        let a = input[start];
-        let b = input[start + 1];
-        let c = input[start + 2];
-        let d = input[start + 3];
+        let j = i - HIST;
+        let a = input[j - 1];
+        let b = input[j];
+        let c = input[j + 1];
+        let d = input[j + 2];
         [a, b, c, d]
     }
 }

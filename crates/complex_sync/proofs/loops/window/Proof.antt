@@ -17,12 +17,12 @@ unfolding ofBits
 returns-2 c =
     let a = c .before .before .before .before .before .before .args in
     let i = a .i in
-    let start = i - 1 - 3 in
+    let k = i - 3 in
     let past = past-history (hist (a .h)) (samples (a .input .now)) (complex .zero) in
-    let w = c .before .before .before .sample-at .ensures ∙ past (i - 1) start (omega arith) in
-    let x = c .before .before .sample-at2 .ensures ∙ past i (start + 1) (omega arith) in
-    let y = c .before .sample-at3 .ensures ∙ past (i + 1) (start + 2) (omega arith) in
-    let z = c .sample-at4 .ensures ∙ past (i + 2) (start + 3) (omega arith) in
+    let w = c .before .before .before .sample-at .ensures ∙ past (i - 1) (k - 1) (omega arith) in
+    let x = c .before .before .sample-at2 .ensures ∙ past i k (omega arith) in
+    let y = c .before .sample-at3 .ensures ∙ past (i + 1) (k + 1) (omega arith) in
+    let z = c .sample-at4 .ensures ∙ past (i + 2) (k + 2) (omega arith) in
     λ j. w j ∷ x j ∷ y j ∷ z j ∷ []
 
 pub window-spec : {M : Type 1} → statement M
@@ -30,4 +30,4 @@ window-spec =
     tie.close
     (tie.spec (search needs) (search needs) (search needs) (search needs) (search needs) (search needs)
     (search needs) (search needs) (search needs) (search needs) (search needs) (search needs) (search needs)
-    (search needs) (search needs) (search needs) (λ c. search needs) returns-2)
+    (search needs) (search needs) (λ c. search needs) returns-2)

@@ -14,12 +14,12 @@ returns-2 : tie.Need-returns-2
 returns-2 c =
     let a = c .before .before .before .before .before .before .args in
     let i = a .i in
-    let start = i - 1 - 3 in
+    let k = i - 3 in
     let past = past-history-read (hist (a .h)) (a .input .now) nan (real .zero) in
-    let w = past (i - 1) start (omega arith) (omega arith) in
-    let x = past i (start + 1) (omega arith) (omega arith) in
-    let y = past (i + 1) (start + 2) (omega arith) (omega arith) in
-    let z = past (i + 2) (start + 3) (omega arith) (omega arith) in
+    let w = past (i - 1) (k - 1) (omega arith) (omega arith) in
+    let x = past i k (omega arith) (omega arith) in
+    let y = past (i + 1) (k + 1) (omega arith) (omega arith) in
+    let z = past (i + 2) (k + 2) (omega arith) (omega arith) in
     λ j. w j ∷ x j ∷ y j ∷ z j ∷ []
 
 pub window-spec : {M : Type 1} → statement M
@@ -27,5 +27,5 @@ window-spec =
     tie.close
     (tie.spec (search needs) (search needs) (search needs) (search needs) (search needs) (search needs)
     (search needs) (search needs) (search needs) (search needs) (search needs) (search needs) (search needs)
-    (search needs) (search needs) (search needs) (search needs) (search needs) (search needs) (search needs)
-    (λ c. search needs) returns-2)
+    (search needs) (search needs) (search needs) (search needs) (search needs) (search needs) (λ c. search needs)
+    returns-2)
