@@ -6,7 +6,6 @@ pub mod Given
 pub mod Accepted
 pub mod Sparing
 pub mod Count
-pub mod Symbol
 pub mod Turned
 pub mod Premise
 pub mod Cases

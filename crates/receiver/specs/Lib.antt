@@ -1,5 +1,4 @@
 pub mod Record
-pub mod Symbol
 pub mod Call
 pub mod Calls
 pub mod Sparing

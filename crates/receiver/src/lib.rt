@@ -3,7 +3,6 @@
 // value, `receive` takes one that is lent. Nothing here requires anything but `Given` of a receiver.
 mod call;
 mod record;
-mod symbol;
 
 pub use call::Ran;
 pub use call::receive;
@@ -16,4 +15,4 @@ pub use record::reset;
 pub use record::set_phase;
 pub use record::set_up;
 pub use record::set_up_unnamed;
-pub use symbol::symbol_number;
+pub use symbol_numbers::symbol_number;

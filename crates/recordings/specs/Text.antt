@@ -8,7 +8,7 @@ use lib.Ieee.{Float}
 use Rattle.values.specs.declared.sample.C32.{C32}
 use Rattle.values.specs.Samples.{samples}
 use Rattle.constellations.specs.declared.kinds.CostasConstellation.{CostasConstellation}
-use Rattle.receiver.specs.Symbol.{symbolOf}
+use Rattle.symbol_numbers.specs.Symbol.{symbolOf}
 
 -- the digit of a symbol's number, in ASCII
 abbrev pub digitOf : CostasConstellation → C32 → ℕ

@@ -11,8 +11,8 @@ use Rattle.values.specs.Samples.{silence, samples}
 use Rattle.values.proofs.Laws.Samples.{length-samples}
 use Rattle.constellations.specs.declared.kinds.CostasConstellation.{CostasConstellation}
 use Rattle.constellations.specs.declared.kinds.CostasConstellation.the-variants.{Bpsk, Qpsk, Psk8}
-use Rattle.receiver.specs.Symbol.{symbolOf}
-use Rattle.receiver.proofs.Laws.Symbol.{symbol-below}
+use Rattle.symbol_numbers.specs.Symbol.{symbolOf}
+use Rattle.symbol_numbers.proofs.Laws.Symbol.{symbol-below}
 use Rattle.recordings.specs.Text.{digitOf, digits}
 
 pub one-digit : (k : CostasConstellation) (y : C32) → symbolOf k y < 8

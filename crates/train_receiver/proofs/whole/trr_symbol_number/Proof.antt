@@ -1,7 +1,7 @@
 -- `train_receiver::whole::trr_symbol_number` meets its contract: the symbol number under the code's constellation. Assumes nothing.
 use mathlib.Core.Path.{ap, _∙_}
 use Rattle.constellations.specs.declared.kinds.CostasConstellation.{CostasConstellation}
-use Rattle.receiver.specs.Symbol.{symbolOf}
+use Rattle.symbol_numbers.specs.Symbol.{symbolOf}
 use borrow.Author.Needs.{needs}
 use Rattle.train_receiver.proofs.whole.trr_symbol_number.Statement.{statement}
 use Rattle.train_receiver.proofs.whole.trr_symbol_number.Tie as tie

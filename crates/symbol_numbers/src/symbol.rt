@@ -1,8 +1,8 @@
 // The number of a symbol.
-use carrier::CostasConstellation;
+use constellations::CostasConstellation;
 use values::C32;
 ghost use mathlib.Core.Path.{_≡_};
-ghost use Rattle.receiver.specs.Symbol.{bpskOf, symbolOf};
+ghost use Rattle.symbol_numbers.specs.Symbol.{bpskOf, symbolOf};
 
 // 1 to the left of the imaginary axis and on its lower half.
 fn bpsk_number(y: C32) -> usize
@@ -26,7 +26,7 @@ pub fn symbol_number(constellation: CostasConstellation, y: C32) -> usize
 {
     match constellation {
         CostasConstellation::Bpsk => bpsk_number(y),
-        CostasConstellation::Qpsk => carrier::octant(y) / 2,
-        CostasConstellation::Psk8 => carrier::octant(y),
+        CostasConstellation::Qpsk => constellations::octant(y) / 2,
+        CostasConstellation::Psk8 => constellations::octant(y),
     }
 }

@@ -1,12 +1,12 @@
--- `receiver::symbol::bpsk_number` meets its contract: each arm is what the definition picks there. Assumes nothing.
+-- `symbol_numbers::symbol::bpsk_number` meets its contract: each arm is what the definition picks there. Assumes nothing.
 use mathlib.Core.Path.{sym}
 use mathlib.Core.Bool.{Bool, _&&_, _||_, cond}
 use Prim.Native.Nat.{ℕ}
 use lib.Ieee.{ofBits, lt, eq}
 use Rattle.ieee.specs.Notation.{zero₀}
-use Rattle.receiver.specs.Symbol.{bpskOf}
-use Rattle.receiver.proofs.symbol.bpsk_number.Statement.{statement}
-use Rattle.receiver.proofs.symbol.bpsk_number.Tie as tie
+use Rattle.symbol_numbers.specs.Symbol.{bpskOf}
+use Rattle.symbol_numbers.proofs.symbol.bpsk_number.Statement.{statement}
+use Rattle.symbol_numbers.proofs.symbol.bpsk_number.Tie as tie
 
 -- by whether the real part is negative, whether it is zero, and whether the imaginary part is negative
 abbrev picked : Bool → Bool → Bool → ℕ

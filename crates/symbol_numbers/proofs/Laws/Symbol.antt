@@ -15,7 +15,7 @@ use Rattle.values.specs.Turn.{AlikeSample}
 use Rattle.constellations.specs.declared.kinds.CostasConstellation.{CostasConstellation}
 use Rattle.constellations.specs.declared.kinds.CostasConstellation.the-variants.{Bpsk, Qpsk, Psk8}
 use Rattle.constellations.proofs.Laws.Octant.{octant-alike, octant-below, octant-silence}
-use Rattle.receiver.specs.Symbol.{bpskOf, symbolOf, pointCount}
+use Rattle.symbol_numbers.specs.Symbol.{bpskOf, symbolOf, pointCount}
 
 pub symbol-below : (c : CostasConstellation) (y : C32) → symbolOf c y < pointCount c
 unfolding symbolOf bpskOf

@@ -1,10 +1,10 @@
--- `receiver::symbol_number` meets its contract: each arm is what the definition picks for that constellation. Assumes nothing.
+-- `symbol_numbers::symbol_number` meets its contract: each arm is what the definition picks for that constellation. Assumes nothing.
 use mathlib.Core.Path.{sym, ap, _∙_}
 use Prim.Native.Nat.{ℕ, _/_}
 use borrow.Author.Needs.{needs}
-use Rattle.receiver.specs.Symbol.{symbolOf}
-use Rattle.receiver.proofs.symbol.symbol_number.Statement.{statement}
-use Rattle.receiver.proofs.symbol.symbol_number.Tie as tie
+use Rattle.symbol_numbers.specs.Symbol.{symbolOf}
+use Rattle.symbol_numbers.proofs.symbol.symbol_number.Statement.{statement}
+use Rattle.symbol_numbers.proofs.symbol.symbol_number.Tie as tie
 
 returns : tie.Need-returns
 unfolding symbolOf
