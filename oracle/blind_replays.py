@@ -20,8 +20,8 @@ ROOT = Path(__file__).resolve().parent.parent
 # the program, its file, the comparison, what stands in its place, and what is no longer looked at
 BLIND = [
     ("timing_replay", "main.rt", "line, agrees);", "line, true);", "every line"),
-    ("operations_replay", "judge.rt", "replay::same_f32(computed.c, single(answer / HIGH))",
-     "replay::same_f32(computed.c, computed.c)", "the cosine of a pair"),
+    ("operations_replay", "judge.rt", "answers::same_f32(computed.c, single(answer / HIGH))",
+     "answers::same_f32(computed.c, computed.c)", "the cosine of a pair"),
     ("receiver_replay", "second.rt", "both(lent, turned::records_turned", "both(true, turned::records_turned",
      "the buffers of a turned run"),
     ("receiver_replay", "second.rt", "both(lent, turned::records_turned(first, after, turns.phase))",

@@ -3,7 +3,7 @@ use Prim.Native.Nat.{ℕ, _+_, _%_, _^_}
 use mathlib.Core.Bool.{Bool, _&&_, cond}
 use mathlib.Core.List.{List, [], _∷_}
 use lib.Ieee.{Float}
-use Rattle.replay.specs.Slices.{sameFloats, sameWords}
+use Rattle.answers.specs.Slices.{sameFloats, sameWords}
 use Rattle.replay_states.specs.Words.{timingWords, carrierWords}
 use Rattle.blocks_replay.specs.declared.calls.Received.{Received}
 use Rattle.blocks_replay.specs.declared.tally.Tally.{Tally}

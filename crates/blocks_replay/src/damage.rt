@@ -4,16 +4,16 @@
 fn damaged(kind: usize) -> f32 {
     match kind {
         // NaN.
-        0 => replay::f32_of(0x7fc00000),
+        0 => patterns::f32_of(0x7fc00000),
         // The infinities.
-        1 => replay::f32_of(0x7f800000),
-        2 => replay::f32_of(0xff800000),
+        1 => patterns::f32_of(0x7f800000),
+        2 => patterns::f32_of(0xff800000),
         // The smallest subnormal.
-        3 => replay::f32_of(1),
+        3 => patterns::f32_of(1),
         // -0.0.
-        4 => replay::f32_of(0x80000000),
+        4 => patterns::f32_of(0x80000000),
         // The largest number.
-        _ => replay::f32_of(0x7f7fffff),
+        _ => patterns::f32_of(0x7f7fffff),
     }
 }
 

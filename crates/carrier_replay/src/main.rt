@@ -22,12 +22,12 @@
 mod counts;
 mod state;
 
+use answers::Operation;
 use carrier::CostasConstellation;
 use carrier::CostasState;
 use carrier::SetUp;
 use libc::STDIN_FILENO;
 use replay::LINES;
-use replay::Operation;
 use replay::buffers;
 use replay::tally;
 ghost use Rattle.carrier.specs.State.{Given};
@@ -64,7 +64,7 @@ fn play_damaged(
 )
     requires { ⌜ Given s ⌝ }
 {
-    let op = replay::damaged(op, tally::played(damaged));
+    let op = answers::damaged(op, tally::played(damaged));
     let mut values = *values;
     let mut input = *input;
     let mut output = *output;
@@ -85,7 +85,7 @@ fn play_line(
     ensures given { λ r. ⌜ Given r ⌝ }
     ensures tallied { λ _. ⌜ Tallied 1 (now (tally .entry)) (now (tally .exit)) ⌝ }
 {
-    let op = replay::read_operation(line);
+    let op = answers::read_operation(line);
     play_damaged(s, op, values, input, output, damaged);
     play(s, op, line, values, input, output, tally)
 }

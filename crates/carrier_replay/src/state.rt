@@ -1,10 +1,10 @@
 // Playing a line on a state.
+use answers::HIGH;
+use answers::Operation;
+use answers::words_agree;
 use carrier::CostasState;
 use carrier::Reply;
 use carrier::SetUp;
-use replay::HIGH;
-use replay::Operation;
-use replay::words_agree;
 use replay_states::carrier_agrees;
 ghost use Rattle.carrier.specs.State.{Given, SetUpGiven};
 
@@ -36,9 +36,9 @@ fn set_up(s: CostasState, values: &[u64; 5], op: Operation, agrees: &mut bool) -
     }
     let answer = carrier::set_up(
         plain::constellation(op.x as u32),
-        replay::f64_of(values[0]),
-        replay::f64_of(values[1]),
-        replay::f64_of(values[2]),
+        answers::f64_of(values[0]),
+        answers::f64_of(values[1]),
+        answers::f64_of(values[2]),
     );
     opened(s, answer, op, agrees)
 }
@@ -90,7 +90,7 @@ fn set_frequency(s: CostasState, op: Operation, agrees: &mut bool) -> CostasStat
     ensures { λ r. ⌜ Given r ⌝ }
 {
     *agrees = words_agree(op.x, 0, 0, op);
-    carrier::set_frequency(s, replay::f64_of(op.x))
+    carrier::set_frequency(s, answers::f64_of(op.x))
 }
 
 // The row of the state that a letter names, or one that there is not.

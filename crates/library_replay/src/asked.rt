@@ -1,8 +1,8 @@
 // What the lines say before a set-up or a call: the values of both loops, and the input.
+use answers::Operation;
+use answers::f64_of;
 use plain_timing::TimingValues;
 use receiver::CarrierValues;
-use replay::Operation;
-use replay::f64_of;
 
 // The last line of each kind.
 pub(crate) struct Asked {

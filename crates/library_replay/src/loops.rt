@@ -1,8 +1,8 @@
 // The loops alone, set up as the receiver is.
+use answers::same_f64;
 use plain_timing::TimingReadings;
 use plain_timing::TimingValues;
 use receiver::CarrierValues;
-use replay::same_f64;
 use train_receiver::CarrierReadings;
 use train_receiver::trr_carrier_readings;
 use train_receiver::trr_carrier_set_up;

@@ -15,11 +15,11 @@ mod readings;
 mod run;
 mod slot;
 
+use answers::Operation;
 use asked::Asked;
 use libc::STDIN_FILENO;
 use play::Played;
 use replay::LINES;
-use replay::Operation;
 use replay::tally;
 ghost use Rattle.library_replay.specs.Slot.{SlotGiven};
 ghost use Rattle.replay.specs.Tally.{Tallied};
@@ -54,7 +54,7 @@ fn play_line(
     ensures given { λ r. ⌜ SlotGiven (r .slot) ⌝ }
     ensures tallied { λ _. ⌜ Tallied 1 (now (tally .entry)) (now (tally .exit)) ⌝ }
 {
-    let wrong = replay::damaged(op, tally::played(damaged));
+    let wrong = answers::damaged(op, tally::played(damaged));
     count_played(last, asked, wrong, line, damaged);
     count_played(last, asked, op, line, tally)
 }
@@ -73,7 +73,7 @@ fn play_lines(tally: &mut [u64; 16], damaged: &mut [u64; 16]) -> u64
         if n == 0 {
             return count;
         }
-        let op = replay::read_operation(&line[..n]);
+        let op = answers::read_operation(&line[..n]);
         lines = asked::note(lines, op);
         played = play_line(played, lines, op, &line[..n], tally, damaged);
         count += 1;

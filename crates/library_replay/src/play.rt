@@ -6,8 +6,8 @@ use crate::run::Six;
 use crate::run::run;
 use crate::slot;
 use crate::slot::Slot;
-use replay::Operation;
-use replay::words_agree;
+use answers::Operation;
+use answers::words_agree;
 ghost use Rattle.library_replay.specs.Slot.{SlotGiven};
 
 // The receiver after a line, what the last call left in the buffers, and whether the line agrees.

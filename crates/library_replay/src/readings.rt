@@ -1,14 +1,14 @@
 // Comparing with a line what the receiver tells of itself.
 use crate::slot::Slot;
+use answers::Operation;
+use answers::f32_bits;
+use answers::f64_bits;
+use answers::floats_agree;
+use answers::high;
+use answers::low;
+use answers::words_agree;
 use plain_receiver::Receiver;
 use plain_timing::TimingReadings;
-use replay::Operation;
-use replay::f32_bits;
-use replay::f64_bits;
-use replay::floats_agree;
-use replay::high;
-use replay::low;
-use replay::words_agree;
 use train_receiver::CarrierReadings;
 use train_receiver::trr_receiver_readings;
 use train_receiver::trr_symbol_number;

@@ -1,12 +1,12 @@
 // A call on the three samples of a line.
 use crate::call::call;
+use answers::Operation;
+use answers::f32_of;
+use answers::high;
+use answers::low;
+use answers::word;
 use plain_receiver::Receiver;
-use replay::Operation;
 use replay::buffers::FILLING;
-use replay::f32_of;
-use replay::high;
-use replay::low;
-use replay::word;
 use values::Counts;
 ghost use mathlib.Core.Path.{_≡_};
 ghost use Prim.Native.Nat.{_≤_};

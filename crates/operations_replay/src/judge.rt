@@ -1,7 +1,7 @@
 // Playing one operation, and comparing what comes out with the recorded answer.
+use answers::HIGH;
+use answers::Operation;
 use mix::Pair;
-use replay::HIGH;
-use replay::Operation;
 
 // Whether the computed answer agrees with the recorded one. If not, the computed one's word.
 pub(crate) enum Verdict {
@@ -17,52 +17,52 @@ fn low(word: u64) -> u32 {
 
 // The f32 whose bits are the low half of the word.
 fn single(word: u64) -> f32 {
-    replay::f32_of(low(word))
+    answers::f32_of(low(word))
 }
 
 // Bit for bit, with NaN for NaN.
 fn exact_f32(computed: f32, answer: u64) -> Verdict {
-    if answer < HIGH && replay::same_f32(computed, single(answer)) {
+    if answer < HIGH && answers::same_f32(computed, single(answer)) {
         return Verdict::Agrees;
     }
-    Verdict::Differs(replay::f32_bits(computed) as u64)
+    Verdict::Differs(answers::f32_bits(computed) as u64)
 }
 
 // f64 variant of exact_f32.
 fn exact_f64(computed: f64, answer: u64) -> Verdict {
-    if replay::same_f64(computed, replay::f64_of(answer)) {
+    if answers::same_f64(computed, answers::f64_of(answer)) {
         return Verdict::Agrees;
     }
-    Verdict::Differs(replay::f64_bits(computed))
+    Verdict::Differs(answers::f64_bits(computed))
 }
 
 // Each of the two as exact_f32 compares it: the cosine with the high half of the answer, the sine
 // with the low half.
 fn exact_pair(computed: Pair, answer: u64) -> Verdict {
-    if replay::same_f32(computed.c, single(answer / HIGH))
-        && replay::same_f32(computed.s, single(answer))
+    if answers::same_f32(computed.c, single(answer / HIGH))
+        && answers::same_f32(computed.s, single(answer))
     {
         return Verdict::Agrees;
     }
-    let c = replay::f32_bits(computed.c) as u64;
-    let s = replay::f32_bits(computed.s) as u64;
+    let c = answers::f32_bits(computed.c) as u64;
+    let s = answers::f32_bits(computed.s) as u64;
     Verdict::Differs(c * HIGH + s)
 }
 
 // As a number: like exact_f32, and a zero's sign does not matter.
 fn number_f32(computed: f32, answer: u64) -> Verdict {
-    if answer < HIGH && replay::alike_f32(computed, single(answer)) {
+    if answer < HIGH && answers::alike_f32(computed, single(answer)) {
         return Verdict::Agrees;
     }
-    Verdict::Differs(replay::f32_bits(computed) as u64)
+    Verdict::Differs(answers::f32_bits(computed) as u64)
 }
 
 // f64 variant of number_f32.
 fn number_f64(computed: f64, answer: u64) -> Verdict {
-    if replay::alike_f64(computed, replay::f64_of(answer)) {
+    if answers::alike_f64(computed, answers::f64_of(answer)) {
         return Verdict::Agrees;
     }
-    Verdict::Differs(replay::f64_bits(computed))
+    Verdict::Differs(answers::f64_bits(computed))
 }
 
 fn truth(computed: bool, answer: u64) -> Verdict {
@@ -103,16 +103,19 @@ fn judge_narrow(table: &[f32; 4097], op: Operation) -> Verdict {
 pub(crate) fn judge(table: &[f32; 4097], op: Operation) -> Verdict {
     let letter = op.letter;
     match letter {
-        b'f' => exact_f64(numbers::floor(replay::f64_of(op.x)), op.answer),
-        b'n' => exact_f32(numbers::narrow(replay::f64_of(op.x)), op.answer),
-        b'd' => exact_f64(numbers::flush_denormal_f64(replay::f64_of(op.x)), op.answer),
-        b'm' => number_f64(
-            numbers::limit_f64(replay::f64_of(op.x), replay::f64_of(op.y)),
+        b'f' => exact_f64(numbers::floor(answers::f64_of(op.x)), op.answer),
+        b'n' => exact_f32(numbers::narrow(answers::f64_of(op.x)), op.answer),
+        b'd' => exact_f64(
+            numbers::flush_denormal_f64(answers::f64_of(op.x)),
             op.answer,
         ),
-        b'j' => truth(numbers::is_finite_f64(replay::f64_of(op.x)), op.answer),
+        b'm' => number_f64(
+            numbers::limit_f64(answers::f64_of(op.x), answers::f64_of(op.y)),
+            op.answer,
+        ),
+        b'j' => truth(numbers::is_finite_f64(answers::f64_of(op.x)), op.answer),
         b'u' => step(
-            modulate::phase_step(replay::f64_of(op.x), replay::f64_of(op.y)),
+            modulate::phase_step(answers::f64_of(op.x), answers::f64_of(op.y)),
             op.answer,
         ),
         _ => {

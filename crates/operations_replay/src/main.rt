@@ -9,11 +9,11 @@
 mod counts;
 mod judge;
 
+use answers::Operation;
+use answers::Reading;
 use judge::Verdict;
 use libc::STDIN_FILENO;
 use replay::LINES;
-use replay::Operation;
-use replay::Reading;
 use replay::tally;
 ghost use Rattle.replay.specs.Tally.{Tallied};
 
@@ -32,12 +32,12 @@ fn play(table: &[f32; 4097], op: Operation, line: &[u8], tally: &mut [u64; 16])
 fn play_line(table: &[f32; 4097], line: &[u8], tally: &mut [u64; 16], damaged: &mut [u64; 16])
     ensures { λ _. ⌜ Tallied 1 (now (tally .entry)) (now (tally .exit)) ⌝ }
 {
-    let Reading::Asks(op) = replay::read_line(line) else {
+    let Reading::Asks(op) = answers::read_line(line) else {
         counts::malformed(tally, line);
         return;
     };
     play(table, op, line, tally);
-    let op = replay::damaged(op, tally::played(damaged));
+    let op = answers::damaged(op, tally::played(damaged));
     play(table, op, line, damaged);
 }
 

@@ -2,12 +2,12 @@
 use crate::set_up::set_up;
 use crate::tests::both;
 use crate::tests::either;
+use answers::HIGH;
+use answers::Operation;
+use answers::f32_bits;
+use answers::f64_bits;
+use answers::words_agree;
 use receiver::Receiver;
-use replay::HIGH;
-use replay::Operation;
-use replay::f32_bits;
-use replay::f64_bits;
-use replay::words_agree;
 use replay_states::answer_agrees;
 use replay_states::carrier_agrees;
 use replay_states::timing_agrees;

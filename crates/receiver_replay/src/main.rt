@@ -41,11 +41,11 @@ mod tests;
 mod turned;
 mod workspace;
 
+use answers::Operation;
 use libc::STDIN_FILENO;
 use receiver::Receiver;
 use receiver::SetUp;
 use replay::LINES;
-use replay::Operation;
 use replay::tally;
 use turned::Turns;
 use turned::next_turns;
@@ -147,7 +147,7 @@ fn play_line(
     ensures given { λ r. ⌜ Given (r .first) × Given (r .second) ⌝ }
     ensures tallied { λ _. ⌜ Tallied 1 (now (tally .entry)) (now (tally .exit)) ⌝ }
 {
-    let op = replay::read_operation(line);
+    let op = answers::read_operation(line);
     play_damaged(pair, op, timing, carrier, input, strobes, output, damaged);
     play(
         pair,

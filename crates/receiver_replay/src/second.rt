@@ -6,8 +6,8 @@ use crate::tests::both;
 use crate::turned;
 use crate::turned::Turns;
 use crate::turned::phase_on;
+use answers::Operation;
 use receiver::Receiver;
-use replay::Operation;
 use replay::buffers::FILLING;
 ghost use Rattle.receiver.specs.Record.{Given};
 
@@ -27,8 +27,8 @@ fn run(
     ensures { λ z. ⌜ Given z ⌝ }
 {
     turned::turn_all(input, turns.samples);
-    let mut own_strobes = [replay::f32_of(FILLING); 192];
-    let mut own_output = [replay::f32_of(FILLING); 192];
+    let mut own_strobes = [answers::f32_of(FILLING); 192];
+    let mut own_output = [answers::f32_of(FILLING); 192];
     let after = first::run(r, op, input, &mut own_strobes, &mut own_output, agrees);
     let lent = turned::buffers_turned(op, strobes, output, &own_strobes, &own_output, turns);
     *agrees = both(

@@ -1,9 +1,9 @@
 // Setting a receiver up as the lines say.
+use answers::Operation;
 use receiver::CarrierValues;
 use receiver::Receiver;
 use receiver::SetUp;
 use receiver::TimingValues;
-use replay::Operation;
 use timing::Ted;
 ghost use Rattle.receiver.specs.Record.{Given, SetUpGiven};
 
@@ -33,21 +33,21 @@ pub(crate) fn some() -> SetUp
 // What the `v` line before and this one ask for.
 fn timing_values(timing: &[u64; 5], op: Operation) -> TimingValues {
     TimingValues {
-        sps: replay::f64_of(timing[0]),
+        sps: answers::f64_of(timing[0]),
         ted: plain::detector((op.answer % 2) as u32),
-        loop_bw: replay::f64_of(timing[1]),
-        damping: replay::f64_of(timing[2]),
-        max_deviation: replay::f64_of(op.x),
-        ted_gain: replay::f64_of(op.y),
+        loop_bw: answers::f64_of(timing[1]),
+        damping: answers::f64_of(timing[2]),
+        max_deviation: answers::f64_of(op.x),
+        ted_gain: answers::f64_of(op.y),
     }
 }
 
 // What the `c` line before asks for.
 fn carrier_values(carrier: &[u64; 5]) -> CarrierValues {
     CarrierValues {
-        loop_bw: replay::f64_of(carrier[0]),
-        damping: replay::f64_of(carrier[1]),
-        max_offset: replay::f64_of(carrier[2]),
+        loop_bw: answers::f64_of(carrier[0]),
+        damping: answers::f64_of(carrier[1]),
+        max_offset: answers::f64_of(carrier[2]),
     }
 }
 

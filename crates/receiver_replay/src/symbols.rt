@@ -1,8 +1,8 @@
 // Symbol numbers.
-use replay::Operation;
-use replay::high;
-use replay::low;
-use replay::words_agree;
+use answers::Operation;
+use answers::high;
+use answers::low;
+use answers::words_agree;
 use values::C32;
 
 // Whether a line with the number of a symbol is right. Of any other line it says what was known.

@@ -1,9 +1,9 @@
 // Turned recordings: the input of the second receiver, and how the two receivers compare after a run.
+use answers::HIGH;
+use answers::Operation;
+use answers::alike_f32;
+use answers::alike_f64;
 use receiver::Receiver;
-use replay::HIGH;
-use replay::Operation;
-use replay::alike_f32;
-use replay::alike_f64;
 use values::C32;
 use values::sample_at;
 use values::store_sample;
@@ -42,7 +42,7 @@ pub(crate) fn next_turns(turns: Turns, op: Operation) -> Turns {
 // The operation, damaged at every other turn.
 pub(crate) fn altered(op: Operation, turn: u64) -> Operation {
     if turn % 2 == 0 {
-        return replay::damaged(op, turn / 2);
+        return answers::damaged(op, turn / 2);
     }
     op
 }

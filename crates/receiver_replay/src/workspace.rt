@@ -1,7 +1,7 @@
 // The buffers of one receiver, and the words of its next set-up: `timing` goes with the input and the
 // output, `carrier` with the strobe buffer. A line is played on each as `replay::buffers` does it.
 use crate::symbols::symbol_agrees;
-use replay::Operation;
+use answers::Operation;
 use replay::buffers;
 
 // The line as the carrier's words and the strobe buffer see it.

@@ -1,5 +1,2 @@
--- The laws of this crate's definitions and tests.
-pub mod Alike
-pub mod Slices
-pub mod Spelling
+-- The laws of this crate's definitions.
 pub mod Tallied

@@ -5,8 +5,8 @@ use mathlib.Core.List.{List}
 use lib.Dec.{eqb, ltb}
 use lib.ListN.{getD}
 use lib.Ieee.{Float, binary32, toBits, nan}
-use Rattle.replay.specs.declared.line.Operation.{Operation}
-use Rattle.replay.specs.Line.{has}
+use Rattle.answers.specs.declared.line.Operation.{Operation}
+use Rattle.answers.specs.Line.{has}
 
 -- six f32 of a line, two in each word, the first in its high half
 abbrev pub twoAt : List Float → ℕ → ℕ

@@ -9,11 +9,11 @@
 //
 // `values` has the three words of the next set-up, and how many f32 were put into the input and how
 // many of the output were compared.
-use crate::line::Operation;
-use crate::words::high;
-use crate::words::low;
-use crate::words::word;
-use crate::words::words_agree;
+use answers::Operation;
+use answers::high;
+use answers::low;
+use answers::word;
+use answers::words_agree;
 use patterns::f32_of;
 ghost use mathlib.Core.Path.{_≡_};
 ghost use Prim.Native.Nat.{_<_};

@@ -6,8 +6,8 @@ use Rattle.values.specs.declared.progress.Progress.{Progress}
 use Rattle.values.specs.declared.progress.Answer.{Answer}
 use Rattle.values.specs.declared.progress.Answer.the-variants.{Done, Refused}
 use Rattle.values.specs.Refusal.{numberOf}
-use Rattle.replay.specs.declared.line.Operation.{Operation}
-use Rattle.replay.specs.Line.{has}
+use Rattle.answers.specs.declared.line.Operation.{Operation}
+use Rattle.answers.specs.Line.{has}
 
 -- consumed in the low half of the second word, produced in its high half
 abbrev pub sameProgress : Progress → Operation → Bool

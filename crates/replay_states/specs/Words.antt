@@ -10,8 +10,8 @@ use Rattle.values.specs.declared.sample.C32.{C32}
 use Rattle.timing.specs.Clock.{nextStrobe}
 use Rattle.complex_sync.specs.declared.state.SymbolSyncState.{SymbolSyncState}
 use Rattle.carrier.specs.declared.state.CostasState.{CostasState}
-use Rattle.replay.specs.declared.line.Operation.{Operation}
-use Rattle.replay.specs.Line.{has}
+use Rattle.answers.specs.declared.line.Operation.{Operation}
+use Rattle.answers.specs.Line.{has}
 use Rattle.plain.specs.Codes.{detectorCode, constellationCode}
 
 -- ---- bit patterns and flags

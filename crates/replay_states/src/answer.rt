@@ -1,8 +1,8 @@
 // Comparing the answer of a timing run with a line: its two counts in the second word, its number in the
 // third.
-use replay::HIGH;
-use replay::Operation;
-use replay::words_agree;
+use answers::HIGH;
+use answers::Operation;
+use answers::words_agree;
 use values::Answer;
 use values::Progress;
 ghost use mathlib.Core.Path.{_≡_};

@@ -1,12 +1,12 @@
 // Comparing a line with a row of a state's words.
 use crate::words::carrier_words;
 use crate::words::timing_words;
+use answers::Operation;
+use answers::alike_f64;
+use answers::f64_of;
+use answers::words_agree;
 use carrier::CostasState;
 use complex_sync::SymbolSyncState;
-use replay::Operation;
-use replay::alike_f64;
-use replay::f64_of;
-use replay::words_agree;
 ghost use mathlib.Core.Path.{_≡_};
 ghost use Prim.Native.Nat.{ℕ};
 ghost use Rattle.replay_states.specs.Words.{sameRow, forgiven, timingWords, carrierWords};

@@ -9,13 +9,13 @@
 //   h  the history's three samples
 //   y  previous strobe, previous decision, middle
 //   f  integrator, middle held + 2 started, next strobe
+use answers::f32_bits;
+use answers::f64_bits;
+use answers::word;
 use carrier::CostasState;
 use complex_sync::SymbolSyncState;
 use plain::constellation_code;
 use plain::detector_code;
-use replay::f32_bits;
-use replay::f64_bits;
-use replay::word;
 ghost use mathlib.Core.Path.{_≡_};
 ghost use Rattle.replay_states.specs.Words.{flagOf, flagsOf, timingWords, carrierWords};
 

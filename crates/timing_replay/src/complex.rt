@@ -1,7 +1,7 @@
 // Playing a line on a state of complex samples.
+use answers::HIGH;
+use answers::Operation;
 use complex_sync::SymbolSyncState;
-use replay::HIGH;
-use replay::Operation;
 use replay_states::answer_agrees;
 use replay_states::timing_agrees;
 ghost use Rattle.timing.specs.Run.{Given};

@@ -25,9 +25,9 @@ mod counts;
 mod real;
 mod slot;
 
+use answers::Operation;
 use libc::STDIN_FILENO;
 use replay::LINES;
-use replay::Operation;
 use replay::buffers;
 use replay::tally;
 use slot::Slot;
@@ -65,7 +65,7 @@ fn play_damaged(
 )
     requires { ⌜ SlotGiven slot ⌝ }
 {
-    let op = replay::damaged(op, tally::played(damaged));
+    let op = answers::damaged(op, tally::played(damaged));
     let mut values = *values;
     let mut input = *input;
     let mut output = *output;
@@ -86,7 +86,7 @@ fn play_line(
     ensures given { λ r. ⌜ SlotGiven r ⌝ }
     ensures tallied { λ _. ⌜ Tallied 1 (now (tally .entry)) (now (tally .exit)) ⌝ }
 {
-    let op = replay::read_operation(line);
+    let op = answers::read_operation(line);
     play_damaged(slot, op, values, input, output, damaged);
     play(slot, op, line, values, input, output, tally)
 }

@@ -1,9 +1,9 @@
 // Playing a line on a state of real samples.
+use answers::HIGH;
+use answers::Operation;
+use answers::f64_bits;
+use answers::floats_agree;
 use real_sync::SymbolSyncState;
-use replay::HIGH;
-use replay::Operation;
-use replay::f64_bits;
-use replay::floats_agree;
 use replay_states::progress_agrees;
 use replay_states::timing_agrees;
 use values::C32;

@@ -1,7 +1,7 @@
 // The state that the lines are played on, of either kind, and its set-up.
 use crate::complex as complex_line;
 use crate::real as real_line;
-use replay::Operation;
+use answers::Operation;
 use timing::Ted;
 ghost use Rattle.timing.specs.Run.{OpeningGiven};
 ghost use Rattle.real_sync.specs.Views as realSync;
@@ -28,12 +28,12 @@ struct SixValues {
 // What the `v` line before and this one ask for.
 fn asked(values: &[u64; 5], op: Operation) -> SixValues {
     SixValues {
-        sps: replay::f64_of(values[0]),
+        sps: answers::f64_of(values[0]),
         ted: plain::detector((op.answer % 16 / 2) as u32),
-        loop_bw: replay::f64_of(values[1]),
-        damping: replay::f64_of(values[2]),
-        max_deviation: replay::f64_of(op.x),
-        ted_gain: replay::f64_of(op.y),
+        loop_bw: answers::f64_of(values[1]),
+        damping: answers::f64_of(values[2]),
+        max_deviation: answers::f64_of(op.x),
+        ted_gain: answers::f64_of(op.y),
     }
 }
 

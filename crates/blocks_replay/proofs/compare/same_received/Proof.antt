@@ -1,7 +1,7 @@
 -- `blocks_replay::compare::same_received` meets its contract: the words compared are those of the definition. Assumes nothing.
 use mathlib.Core.Path.{_∙_}
 use mathlib.Core.Bool.{_&&_}
-use Rattle.replay.specs.Slices.{sameWords}
+use Rattle.answers.specs.Slices.{sameWords}
 use Rattle.blocks_replay.specs.Compare.{sameReceived}
 use borrow.Author.Needs.{needs}
 use Rattle.blocks_replay.proofs.compare.same_received.Statement.{statement}

@@ -6,7 +6,7 @@ use mathlib.Core.Bool.{Bool, cond}
 use mathlib.Core.List.{List}
 use lib.Ieee.{Float}
 use borrow.Author.Tests.{ne-eqb}
-use Rattle.replay.specs.declared.line.Operation.{Operation}
+use Rattle.answers.specs.declared.line.Operation.{Operation}
 use Rattle.replay.specs.Buffers.{agreed, byLetter, sameSix}
 use borrow.Author.Needs.{needs}
 use Rattle.replay.proofs.buffers.play.Statement.{statement}

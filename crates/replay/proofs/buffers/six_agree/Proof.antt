@@ -1,6 +1,6 @@
 -- `replay::buffers::six_agree` meets its contract, word by word. Assumes nothing.
 use mathlib.Core.Path.{_∙_}
-use Rattle.replay.specs.Line.{has}
+use Rattle.answers.specs.Line.{has}
 use borrow.Author.Needs.{needs}
 use Rattle.replay.proofs.buffers.six_agree.Statement.{statement}
 use Rattle.replay.proofs.buffers.six_agree.Tie as tie

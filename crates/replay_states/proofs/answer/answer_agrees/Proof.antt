@@ -1,7 +1,7 @@
 -- `replay_states::answer::answer_agrees` meets its contract, by the answer. Assumes nothing.
 use mathlib.Core.Path.{sym, ap, _∙_}
 use Rattle.values.specs.declared.progress.Answer.{Answer}
-use Rattle.replay.specs.Line.{has}
+use Rattle.answers.specs.Line.{has}
 use Rattle.replay_states.specs.Answer.{sameAnswer}
 use borrow.Author.Needs.{needs}
 use Rattle.replay_states.proofs.answer.answer_agrees.Statement.{statement}

@@ -4,7 +4,7 @@ use mathlib.Core.Bool.{Bool, _&&_}
 use Prim.Native.Nat.{_+_, _*_, _/_}
 use lib.ListN.{length, getD}
 use borrow.Author.Tests.{lt-ltb, le-ltb}
-use Rattle.replay.specs.Line.{has}
+use Rattle.answers.specs.Line.{has}
 use borrow.Author.Needs.{needs}
 use Rattle.replay_states.proofs.rows.row_agrees.Statement.{statement}
 use Rattle.replay_states.proofs.rows.row_agrees.Tie as tie
