@@ -11,8 +11,8 @@ use Rattle.values.specs.Samples.{samples}
 use Rattle.timing.specs.Sample.{complex}
 use Rattle.complex_sync.specs.Views.{sync}
 use Rattle.receiver.specs.declared.record.Receiver.{Receiver}
-use Rattle.receiver.specs.Call.{Outcome, called, accepts}
-use Rattle.receiver.specs.Calls.{Call, whole, strobesOf, outputsOf}
+use Rattle.sample_calls.specs.Call.{Outcome, called, accepts}
+use Rattle.sample_calls.specs.Calls.{Call, whole, strobesOf, outputsOf}
 use Rattle.blocks.specs.Instants.{Instant, later, instants}
 
 -- the receiver between two calls, and the samples that it was handed and has not consumed

@@ -46,7 +46,7 @@ fn next(s: Received, cut: Cut, input: &[f32], strobes: &mut [f32], output: &mut 
     let from = parts_of(s.produced, room);
     let to = from + parts_of(cut.places, room - from);
     let r = s.receiver;
-    let ran = receiver::run(
+    let ran = sample_calls::run(
         r,
         &input[at..end],
         &mut strobes[from..to],

@@ -3,7 +3,7 @@ use plain_receiver::Receiver;
 use plain_receiver::ReceiverRan;
 use train_receiver::trr_receiver_receive;
 ghost use mathlib.Core.Path.{_≡_};
-ghost use Rattle.receiver.specs.Call.{called};
+ghost use Rattle.sample_calls.specs.Call.{called};
 ghost use Rattle.plain_receiver.specs.Receiver.{receiverOf, outcomeOf, Given};
 
 // The answer, and the record as the call left it.

@@ -10,7 +10,7 @@ use Rattle.receiver.specs.declared.record.TimingValues as declaredValues
 use Rattle.receiver.specs.declared.record.SetUp.{SetUp}
 use Rattle.receiver.specs.declared.record.SetUp.the-variants.{Ready, Refused}
 use Rattle.receiver.specs.Record as record-of
-use Rattle.receiver.specs.Call.{Outcome}
+use Rattle.sample_calls.specs.Call.{Outcome}
 use Rattle.values.specs.declared.counts.Counts.{Counts}
 use Rattle.plain_timing.specs.declared.params.TimingValues.{TimingValues}
 use Rattle.plain_receiver.specs.declared.Receiver.{Receiver}

@@ -10,7 +10,7 @@ use values::Counts;
 use values::counts_of;
 ghost use mathlib.Core.Path.{_≡_};
 ghost use Rattle.receiver.specs.Record.{SetUpGiven};
-ghost use Rattle.receiver.specs.Call.{called};
+ghost use Rattle.sample_calls.specs.Call.{called};
 ghost use Rattle.plain_receiver.specs.Receiver.{valuesOf, receiverOf, recordOf, none, setUpOf, outcomeOf, Given};
 
 // The receiver as a plain record.
@@ -111,7 +111,7 @@ pub fn run(x: Receiver, input: &[f32], strobes: &mut [f32], output: &mut [f32]) 
     ensures outcome { λ z. ⌜ outcomeOf (z .counts) (z .receiver) (now (strobes .exit)) (now (output .exit)) ≡ called (receiverOf x) (now (input .entry)) (now (strobes .entry)) (now (output .entry)) ⌝ }
     ensures given { λ z. ⌜ Given (z .receiver) ⌝ }
 {
-    let ran = receiver::run(receiver_of(x), input, strobes, output);
+    let ran = sample_calls::run(receiver_of(x), input, strobes, output);
     let answer = ran.answer;
     let r = ran.receiver;
     ReceiverRan {

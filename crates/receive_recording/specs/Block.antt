@@ -9,7 +9,7 @@ use lib.Ieee.{Float}
 use Rattle.ieee.specs.Notation.{zero₀}
 use Rattle.values.specs.Samples.{samples}
 use Rattle.receiver.specs.declared.record.Receiver.{Receiver}
-use Rattle.receiver.specs.Call.{Outcome, called}
+use Rattle.sample_calls.specs.Call.{Outcome, called}
 use Rattle.recordings.specs.declared.content.Content.{Content}
 use Rattle.recordings.specs.Content.{contentWith}
 use Rattle.receive_recording.specs.declared.block.Called.{Called}

@@ -34,7 +34,7 @@ fn call(r: Receiver, input: &[f32]) -> Called
 {
     let mut strobes = [0.0f32; PLACES];
     let mut output = [0.0f32; PLACES];
-    let ran = receiver::run(r, input, &mut strobes, &mut output);
+    let ran = sample_calls::run(r, input, &mut strobes, &mut output);
     let after = ran.receiver;
     let answer = ran.answer;
     let counts = values::counts_of(answer);

@@ -1,11 +1,4 @@
 -- The laws of this crate's definitions.
 pub mod Setup
 pub mod Values
-pub mod Refused
 pub mod Given
-pub mod Accepted
-pub mod Sparing
-pub mod Count
-pub mod Turned
-pub mod Premise
-pub mod Cases

@@ -1,5 +1,1 @@
 pub mod Record
-pub mod Call
-pub mod Calls
-pub mod Sparing
-pub mod Cases

@@ -1,12 +1,7 @@
-// The train report receiver, added to the original: symbol timing into a strobe buffer, then the carrier
-// loop over the strobes that were produced, into the output. `run` takes and returns the receiver by
-// value, `receive` takes one that is lent. Nothing here requires anything but `Given` of a receiver.
-mod call;
+// The train report receiver, added to the original: both loops, with a symbol count. Its sample calls stand in
+// `sample_calls`. Nothing here requires anything but `Given` of a receiver.
 mod record;
 
-pub use call::Ran;
-pub use call::receive;
-pub use call::run;
 pub use record::CarrierValues;
 pub use record::Receiver;
 pub use record::SetUp;

@@ -74,7 +74,7 @@ pub(crate) fn run(
     let n = part_of(input.len(), op.x % STROBES);
     let found = part_of(strobes.len(), op.x / STROBES % STROBES);
     let places = part_of(output.len(), op.x / HIGH);
-    let ran = receiver::run(r, &input[..n], &mut strobes[..found], &mut output[..places]);
+    let ran = sample_calls::run(r, &input[..n], &mut strobes[..found], &mut output[..places]);
     let answer = ran.answer;
     *agrees = both(lengths_fit(op), answer_agrees(answer, op));
     ran.receiver

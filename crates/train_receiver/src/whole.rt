@@ -16,7 +16,7 @@ use values::C32;
 use values::Counts;
 ghost use mathlib.Core.Path.{_≡_};
 ghost use Rattle.receiver.specs.Record.{unnamed, opened, restarted, phaseSet};
-ghost use Rattle.receiver.specs.Call.{called};
+ghost use Rattle.sample_calls.specs.Call.{called};
 ghost use Rattle.symbol_numbers.specs.Symbol.{symbolOf};
 ghost use Rattle.plain.specs.Codes.{constellationOf};
 ghost use Rattle.plain_receiver.specs.Receiver.{valuesOf, receiverOf, recordOf, setUpOf, outcomeOf, Given};

@@ -6,7 +6,7 @@ use lib.ListN.{length}
 use lib.Ieee.{Float}
 use Rattle.receiver.specs.declared.record.Receiver.{Receiver}
 use Rattle.receiver.specs.Record.{Given}
-use Rattle.receiver.specs.Calls.{Call}
+use Rattle.sample_calls.specs.Calls.{Call}
 use Rattle.blocks.specs.Receiver.{start, Heard, recorded, heard, left, TakesAll, Roomy, again, oftenEnough, APlace}
 use Rattle.blocks.proofs.Laws.Recording.{cut-never-shows}
 use Rattle.blocks.proofs.Laws.Taken.{takes-left, roomy-takes, recorded-again, again-left}

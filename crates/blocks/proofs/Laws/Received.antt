@@ -20,10 +20,10 @@ use Rattle.carrier.specs.Step.{Symbols, runs}
 use Rattle.carrier.proofs.Laws.Count.{runs-count}
 use Rattle.receiver.specs.declared.record.Receiver.{Receiver}
 use Rattle.receiver.specs.Record.{Given}
-use Rattle.receiver.specs.Call.{countAfter, refusedCall, done, accepts}
-use Rattle.receiver.specs.Calls.{Call, strobesOf, outputsOf}
-use Rattle.receiver.proofs.Laws.Refused.{accepted-done, refused-by}
-use Rattle.receiver.proofs.Laws.Count.{count-none, count-twice}
+use Rattle.sample_calls.specs.Call.{countAfter, refusedCall, done, accepts}
+use Rattle.sample_calls.specs.Calls.{Call, strobesOf, outputsOf}
+use Rattle.sample_calls.proofs.Laws.Refused.{accepted-done, refused-by}
+use Rattle.sample_calls.proofs.Laws.Count.{count-none, count-twice}
 use Rattle.blocks.specs.Instants.{Instant, later, instants}
 use Rattle.blocks.specs.Timing.{goesOn, together}
 use Rattle.blocks.specs.Receiver.{Waiting, handed, callOn, waitsAfter, Heard, heardOn, joined, unheard}

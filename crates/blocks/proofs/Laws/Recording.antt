@@ -14,10 +14,10 @@ use Rattle.timing.proofs.Laws.Run.{ran-produced}
 use Rattle.complex_sync.specs.Views.{sync}
 use Rattle.receiver.specs.declared.record.Receiver.{Receiver}
 use Rattle.receiver.specs.Record.{Given}
-use Rattle.receiver.specs.Call.{accepts}
-use Rattle.receiver.specs.Calls.{Call}
-use Rattle.receiver.proofs.Laws.Given.{called-given}
-use Rattle.receiver.proofs.Laws.Refused.{accepted-whole}
+use Rattle.sample_calls.specs.Call.{accepts}
+use Rattle.sample_calls.specs.Calls.{Call}
+use Rattle.sample_calls.proofs.Laws.Given.{called-given}
+use Rattle.sample_calls.proofs.Laws.Refused.{accepted-whole}
 use Rattle.blocks.specs.Instants.{later}
 use Rattle.blocks.specs.Receiver.{Waiting, start, handed, waitsAfter, Heard, heardOn, joined, unheard, recorded, heard, waits, left}
 use Rattle.blocks.proofs.Laws.Received.{received, received-instants, call-received, refused-unheard, refused-waits, unheard-first, received-joined, received-nothing}

@@ -20,11 +20,11 @@ use Rattle.timing.proofs.Laws.Run.{ran-all}
 use Rattle.complex_sync.specs.Views.{sync}
 use Rattle.receiver.specs.declared.record.Receiver.{Receiver}
 use Rattle.receiver.specs.Record.{Given}
-use Rattle.receiver.specs.Call.{accepts, oddAny}
-use Rattle.receiver.specs.Calls.{Call}
-use Rattle.receiver.proofs.Laws.Given.{called-given}
-use Rattle.receiver.proofs.Laws.Sparing.{called-sparing}
-use Rattle.receiver.proofs.Laws.Refused.{all-even, accepted-whole}
+use Rattle.sample_calls.specs.Call.{accepts, oddAny}
+use Rattle.sample_calls.specs.Calls.{Call}
+use Rattle.sample_calls.proofs.Laws.Given.{called-given}
+use Rattle.sample_calls.proofs.Laws.Sparing.{called-sparing}
+use Rattle.sample_calls.proofs.Laws.Refused.{all-even, accepted-whole}
 use Rattle.blocks.specs.Receiver.{Waiting, start, handed, callOn, waitsAfter, Heard, heardOn, recorded, waits, left, TakesAll, Roomy, again, oftenEnough, APlace}
 use Rattle.blocks.proofs.Laws.Onward.{ran-roomy, ran-nearer}
 use Rattle.blocks.proofs.Laws.Received.{received, call-received, received-nothing}

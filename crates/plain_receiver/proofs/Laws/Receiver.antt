@@ -12,7 +12,7 @@ use Rattle.complex_sync.specs.Views.{sync}
 use Rattle.complex_sync.specs.Views as complex
 use Rattle.receiver.specs.declared.record.Receiver as declaredReceiver
 use Rattle.receiver.specs.Record as receiver
-use Rattle.receiver.specs.Call.{Outcome, refusedCall, oddAny, done, called}
+use Rattle.sample_calls.specs.Call.{Outcome, refusedCall, oddAny, done, called}
 use Rattle.values.specs.declared.counts.Counts.{Counts}
 use Rattle.plain_receiver.specs.declared.Receiver.{Receiver}
 use Rattle.plain.specs.Faithful.{Faithful}

@@ -7,7 +7,7 @@ use native.Mathlib.Omega.{arith}
 use lib.ListN.{length, length-drop, drop}
 use lib.Ieee.{Float}
 use Rattle.receiver.specs.declared.record.Receiver.{Receiver}
-use Rattle.receiver.proofs.Laws.Refused.{all-even, called-number}
+use Rattle.sample_calls.proofs.Laws.Refused.{all-even, called-number}
 use Rattle.receive_recording.specs.Block.{places, callOn, calledOf, endedBy, final, received}
 
 pub call-accepted : (r : Receiver) (xs : List Float) → length xs % 2 ≡ 0 → callOn r xs .number ≡ 0

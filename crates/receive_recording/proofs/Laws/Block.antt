@@ -11,7 +11,7 @@ use lib.Ieee.{Float}
 use borrow.Author.Tests.{eq-eqb, ne-eqb, le-leb, lt-leb}
 use Rattle.receiver.specs.declared.record.Receiver.{Receiver}
 use Rattle.receiver.specs.Record.{Given}
-use Rattle.receiver.specs.Call.{Outcome}
+use Rattle.sample_calls.specs.Call.{Outcome}
 use Rattle.receive_recording.specs.declared.block.Called.{Called}
 use Rattle.receive_recording.specs.declared.block.Received.{Received}
 use Rattle.receive_recording.specs.Block.{callOn, calledOf, endedBy, final, received}

@@ -12,10 +12,10 @@ use lib.Ieee.{Float}
 use Rattle.ieee.proofs.Laws.Test.{yes}
 use Rattle.receiver.specs.declared.record.Receiver.{Receiver}
 use Rattle.receiver.specs.Record.{Given}
-use Rattle.receiver.specs.Call.{Outcome, called}
-use Rattle.receiver.specs.Calls.{Call}
-use Rattle.receiver.proofs.Laws.Given.{called-given}
-use Rattle.receiver.proofs.Laws.Sparing.{called-sparing}
+use Rattle.sample_calls.specs.Call.{Outcome, called}
+use Rattle.sample_calls.specs.Calls.{Call}
+use Rattle.sample_calls.proofs.Laws.Given.{called-given}
+use Rattle.sample_calls.proofs.Laws.Sparing.{called-sparing}
 use Rattle.blocks.specs.Receiver.{Waiting, start, waitsAfter, Heard, recorded, heard, waits, again, APlace}
 use Rattle.blocks.proofs.Laws.Recording.{cut-never-shows, heard-receiver}
 use Rattle.blocks.proofs.Laws.Taken.{once, ahead, nearer, left-even, idle, again-takes, waits-given, waits-append, recorded-append, again-records}

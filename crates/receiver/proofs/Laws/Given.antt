@@ -1,24 +1,11 @@
--- What holds of every given receiver: a fresh one of an accepted set-up is given, and a given one stays so when its phase is set, when it is reset, and in a sample call, refused or not. Assumes nothing.
-use mathlib.Core.Path.{_≡_, refl}
-use Prim.Native.Nat.{ℕ, _+_, _*_, _/_, _<_, _^_}
-use native.Mathlib.Omega.{arith}
-use mathlib.Core.Bool.{Bool, true, false, cond}
-use mathlib.Core.List.{List}
-use borrow.Author.Tests.{ltb-false}
-use lib.Dec.{lit<, eqb, ltb}
-use lib.ListN.{length, take}
-use lib.Ieee.{Float}
-use Rattle.values.specs.declared.error.Refusal.the-variants.{Uneven, Odd}
-use Rattle.values.specs.Samples.{samples}
+-- What holds of every given receiver: a given one stays so when its phase is set and when it is reset. Assumes nothing.
+use Prim.Native.Nat.{ℕ, _<_, _^_}
+use lib.Dec.{lit<}
 use Rattle.timing.specs.Sample.{complex}
-use Rattle.timing.specs.Run.{doneComplex}
-use Rattle.timing.proofs.Laws.Run.{ran-given}
 use Rattle.timing.proofs.Laws.Fresh as timing
-use Rattle.complex_sync.specs.Views.{sync}
 use Rattle.carrier.proofs.Laws.Given as carrier
 use Rattle.receiver.specs.declared.record.Receiver.{Receiver}
 use Rattle.receiver.specs.Record.{restarted, phaseSet, Given}
-use Rattle.receiver.specs.Call.{Outcome, top, countAfter, refusedCall, done, oddAny, called}
 
 pub restarted-given : (r : Receiver) → Given r → Given (restarted r)
 restarted-given r g = record {
@@ -29,31 +16,3 @@ restarted-given r g = record {
 
 pub phaseSet-given : (r : Receiver) (phase : ℕ) → phase < 2 ^ 32 → Given r → Given (phaseSet r phase)
 phaseSet-given r phase h g = record { timing = g .timing; carrier = carrier.phaseSet-given (r .carrier) phase h (g .carrier); count-in = g .count-in }
-
--- the count stays in 32 bits
-held-in : (count n : ℕ) → countAfter count n < 2 ^ 32
-unfolding countAfter
-held-in count n = go (ltb top (count + n)) refl
-  where
-    go : (b : Bool) → ltb top (count + n) ≡ b → cond b top (count + n) < 2 ^ 32
-    go true h = lit< tt
-    go false h = omega (arith, ltb-false)
-
-done-given : (r : Receiver) (xs zs ys : List Float) → Given r → Given (done r xs zs ys .receiver)
-unfolding done
-done-given r xs zs ys g =
-    let t = doneComplex (sync (r .timing)) xs zs in
-    record {
-      timing = ran-given complex (sync (r .timing)) (samples xs) (length zs / 2) (g .timing);
-      carrier = carrier.done-given (r .carrier) (take (2 * t .produced) (t .output)) (g .carrier);
-      count-in = held-in (r .count) (t .produced);
-    }
-
-pub called-given : (r : Receiver) (xs zs ys : List Float) → Given r → Given (called r xs zs ys .receiver)
-unfolding called
-called-given r xs zs ys g = go (oddAny xs zs ys) (eqb (length zs) (length ys))
-  where
-    go : (o e : Bool) → Given (cond {A = Outcome} o (refusedCall Odd r zs ys) (cond e (done r xs zs ys) (refusedCall Uneven r zs ys)) .receiver)
-    go true e = g
-    go false true = done-given r xs zs ys g
-    go false false = g

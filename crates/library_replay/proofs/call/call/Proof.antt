@@ -1,7 +1,7 @@
 -- `library_replay::call::call` meets its contract: it is a caller of the crate `lent`, with two outputs, of the receiver's entry. Assumes nothing.
 use mathlib.Core.Path.{_≡_, refl}
 use mathlib.Core.Bool.{true}
-use Rattle.receiver.specs.Call.{called}
+use Rattle.sample_calls.specs.Call.{called}
 use Rattle.plain_receiver.specs.Receiver.{receiverOf, outcomeOf, Given}
 use Rattle.plain_receiver.specs.declared.ReceiverRan.{ReceiverRan}
 use Rattle.lent.proofs.Laws.Entry.{Entry}

@@ -2,7 +2,7 @@
 use mathlib.Core.Path.{ap, _∙_}
 use lib.Ieee.{ofBits}
 use Rattle.values.specs.declared.counts.Counts.{Counts}
-use Rattle.receiver.specs.Call.{Outcome}
+use Rattle.sample_calls.specs.Call.{Outcome}
 use Rattle.receive_recording.specs.declared.block.Called.{Called}
 use Rattle.receive_recording.specs.Block.{calledOf}
 use borrow.Author.Needs.{needs}

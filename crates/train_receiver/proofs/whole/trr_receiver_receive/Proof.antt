@@ -1,6 +1,6 @@
 -- `train_receiver::whole::trr_receiver_receive` meets its contract: it is the entry of the crate `lent`, with two outputs, at the receiver's record and its answer. Assumes nothing.
 use mathlib.Core.Path.{_≡_, refl}
-use Rattle.receiver.specs.Call.{called}
+use Rattle.sample_calls.specs.Call.{called}
 use Rattle.plain_receiver.specs.Receiver.{receiverOf, outcomeOf, Given}
 use Rattle.plain_receiver.specs.declared.ReceiverRan.{ReceiverRan}
 use Rattle.lent.proofs.Laws.Entry.{Entry, writes-back, function}

@@ -19,10 +19,10 @@ use Rattle.timing.proofs.Laws.Run.{doneComplex-sparing}
 use Rattle.complex_sync.specs.Views.{sync}
 use Rattle.carrier.specs.Run as carrier
 use Rattle.carrier.proofs.Laws.Count.{done-length}
 use Rattle.receiver.specs.declared.record.Receiver.{Receiver}
-use Rattle.receiver.specs.Call.{refusedCall, done, oddAny, called}
-use Rattle.receiver.specs.Sparing.{Sparing}
-use Rattle.receiver.proofs.Laws.Refused.{called-odd, called-uneven, called-done}
+use Rattle.sample_calls.specs.Call.{refusedCall, done, oddAny, called}
+use Rattle.sample_calls.specs.Sparing.{Sparing}
+use Rattle.sample_calls.proofs.Laws.Refused.{called-odd, called-uneven, called-done}
 
 refused-sparing : (n : Refusal) (r : Receiver) (xs zs ys : List Float) → 0 < numberOf n → Sparing xs zs ys (refusedCall n r zs ys)
 refused-sparing n r xs zs ys h = record { produced = omega arith; consumed = omega arith; all = λ e l. absurd (omega arith); strobes-rest = refl; output-rest = refl; strobes-length = refl; output-length = refl }

@@ -16,8 +16,8 @@ use Rattle.complex_sync.specs.Views.{sync, stateOf, recovered}
 use Rattle.carrier.specs.declared.state.CostasState.{CostasState}
 use Rattle.carrier.specs.Run as carrier
 use Rattle.carrier.proofs.Laws.Carried.{carried-all}
 use Rattle.receiver.specs.declared.record.Receiver.{Receiver}
-use Rattle.receiver.specs.Call.{Outcome, outcomeOf, countAfter, done}
+use Rattle.sample_calls.specs.Call.{Outcome, outcomeOf, countAfter, done}
 
 -- what an outcome of timing's makes of a call on r
 abbrev after : Receiver → List Float → run.Outcome C32 → Outcome

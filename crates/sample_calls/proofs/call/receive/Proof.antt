@@ -1,20 +1,20 @@
--- `receiver::call::receive` meets its contract: it is the entry of the crate `lent`, with two outputs, at the receiver and its answer. Assumes nothing.
+-- `sample_calls::call::receive` meets its contract: it is the entry of the crate `lent`, with two outputs, at the receiver and its answer. Assumes nothing.
 use mathlib.Core.Path.{_≡_, refl}
 use Rattle.receiver.specs.Record.{Given}
-use Rattle.receiver.specs.Call.{called, outcomeOf, answered}
-use Rattle.receiver.specs.declared.call.Ran.{Ran}
+use Rattle.sample_calls.specs.Call.{called, outcomeOf, answered}
+use Rattle.sample_calls.specs.declared.call.Ran.{Ran}
 use Rattle.lent.proofs.Laws.Entry.{Entry, writes-back, function}
 use Rattle.lent.proofs.Laws.Lent.{entry-meets}
 use Rattle.receiver.proofs.record.Receiver as receiver
 use Rattle.receiver.proofs.record.Receiver.Laws as receiver-laws
 use Rattle.values.proofs.progress.Answer as answer
 use Rattle.values.proofs.progress.Answer.Laws as answer-laws
-use Rattle.receiver.proofs.call.Ran as ran
-use Rattle.receiver.proofs.call.run.Symbol as run
-use Rattle.receiver.proofs.call.run.Met as run-met
-use Rattle.receiver.proofs.call.receive.Key as key
-use Rattle.receiver.proofs.call.receive.Code as code
-use Rattle.receiver.proofs.call.receive.Statement.{statement}
+use Rattle.sample_calls.proofs.call.Ran as ran
+use Rattle.sample_calls.proofs.call.run.Symbol as run
+use Rattle.sample_calls.proofs.call.run.Met as run-met
+use Rattle.sample_calls.proofs.call.receive.Key as key
+use Rattle.sample_calls.proofs.call.receive.Code as code
+use Rattle.sample_calls.proofs.call.receive.Statement.{statement}
 
 abbrev entry : Entry 2
 entry = record {
@@ -42,4 +42,4 @@ code-is = refl
 pub receive-spec : {M : Type 1} → statement M
 unfolding code.routine
 receive-spec 𝓤 H 𝓜 𝓖 𝓡 =
-    entry-meets entry 𝓤 H 𝓜 𝓖 𝓡 code.env key.name code.function code-is (code.unfolded 𝓤 H 𝓜 𝓡) run.routine code.calls-receiver·call·run (run-met.met 𝓤 H 𝓜 𝓖 𝓡)
+    entry-meets entry 𝓤 H 𝓜 𝓖 𝓡 code.env key.name code.function code-is (code.unfolded 𝓤 H 𝓜 𝓡) run.routine code.calls-sample-calls·call·run (run-met.met 𝓤 H 𝓜 𝓖 𝓡)

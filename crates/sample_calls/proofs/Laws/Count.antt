@@ -10,11 +10,11 @@ use lib.ListN.{length}
 use lib.Ieee.{Float}
 use Rattle.values.specs.declared.error.Refusal.the-variants.{Uneven, Odd}
 use Rattle.values.specs.Calls.{outcomesBy, afterBy}
 use Rattle.receiver.specs.declared.record.Receiver.{Receiver}
 use Rattle.receiver.specs.Record.{Given}
-use Rattle.receiver.specs.Call.{Outcome, top, countAfter, refusedCall, done, oddAny, called}
-use Rattle.receiver.specs.Calls.{Call, callOf, outcomes, after, producedIn}
-use Rattle.receiver.proofs.Laws.Given.{called-given}
+use Rattle.sample_calls.specs.Call.{Outcome, top, countAfter, refusedCall, done, oddAny, called}
+use Rattle.sample_calls.specs.Calls.{Call, callOf, outcomes, after, producedIn}
+use Rattle.sample_calls.proofs.Laws.Given.{called-given}
 
 -- up to the top it is the sum
 pub count-sum : (count n : ℕ) → count + n ≤ top → countAfter count n ≡ count + n

@@ -4,7 +4,7 @@ use Prim.Native.Nat.{_*_, _/_, _≤_, _<_}
 use mathlib.Core.List.{List}
 use lib.ListN.{length, drop}
 use lib.Ieee.{Float}
-use Rattle.receiver.specs.Call.{Outcome}
+use Rattle.sample_calls.specs.Call.{Outcome}
 
 -- of a call on the input xs, the strobe buffer zs and the output ys
 pub record Sparing (xs zs ys : List Float) (o : Outcome) : Type 0 where

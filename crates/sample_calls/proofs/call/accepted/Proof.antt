@@ -1,13 +1,13 @@
--- `receiver::call::accepted` meets its contract: what the two runs come to, put together. Assumes nothing.
+-- `sample_calls::call::accepted` meets its contract: what the two runs come to, put together. Assumes nothing.
 use mathlib.Core.Path.{_≡_}
 use Prim.Native.Nat.{_*_, _≤_}
 use native.Mathlib.Omega.{arith}
 use lib.ListN.{length, length-take}
 use borrow.Author.Needs.{needs}
-use Rattle.receiver.proofs.Laws.Accepted.{fits-output, call-done}
-use Rattle.receiver.proofs.Laws.Accepted as accepted
-use Rattle.receiver.proofs.call.accepted.Statement.{statement}
-use Rattle.receiver.proofs.call.accepted.Tie as tie
+use Rattle.sample_calls.proofs.Laws.Accepted.{fits-output, call-done}
+use Rattle.sample_calls.proofs.Laws.Accepted as accepted
+use Rattle.sample_calls.proofs.call.accepted.Statement.{statement}
+use Rattle.sample_calls.proofs.call.accepted.Tie as tie
 
 -- what is known of the buffers once timing has run: they are as long as each other, and the strobes produced lie in them
 record Room (c : tie.After-recover) : Type 0 where

@@ -2,7 +2,7 @@
 use Rattle.timing.proofs.Laws.Cases as timing
 use Rattle.modulate.proofs.Laws.Cases as modulate
 use Rattle.carrier.proofs.Laws.Cases as carrier
-use Rattle.receiver.specs.Cases.{StarredCases}
+use Rattle.sample_calls.specs.Cases.{StarredCases}
 
 pub starred-cases : StarredCases
 starred-cases = record { windows-and-errors = timing.cases; phase-steps = modulate.cases; octants-and-measures = carrier.cases }

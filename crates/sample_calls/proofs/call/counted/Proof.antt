@@ -1,13 +1,13 @@
--- `receiver::call::counted` meets its contract: the count stops where less room is left than there are symbols. Assumes nothing.
+-- `sample_calls::call::counted` meets its contract: the count stops where less room is left than there are symbols. Assumes nothing.
 use mathlib.Core.Path.{sym, ap}
 use mathlib.Core.Bool.{Bool, cond}
 use Prim.Native.Nat.{ℕ, _+_}
 use native.Mathlib.Omega.{arith}
 use borrow.Author.Needs.{needs}
 use borrow.Author.Tests.{lt-ltb, le-ltb}
-use Rattle.receiver.specs.Call.{top, countAfter}
-use Rattle.receiver.proofs.call.counted.Statement.{statement}
-use Rattle.receiver.proofs.call.counted.Tie as tie
+use Rattle.sample_calls.specs.Call.{top, countAfter}
+use Rattle.sample_calls.proofs.call.counted.Statement.{statement}
+use Rattle.sample_calls.proofs.call.counted.Tie as tie
 
 -- by whether the sum is above the top
 abbrev picked : Bool → ℕ → ℕ

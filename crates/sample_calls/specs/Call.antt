@@ -14,8 +14,8 @@ use Rattle.values.specs.Buffers.{written, oddEither}
 use Rattle.timing.specs.Run.{doneComplex}
 use Rattle.complex_sync.specs.Views.{sync, stateOf}
 use Rattle.carrier.specs.Run as carrier
 use Rattle.receiver.specs.declared.record.Receiver.{Receiver}
-use Rattle.receiver.specs.declared.call.Ran.{Ran}
+use Rattle.sample_calls.specs.declared.call.Ran.{Ran}
 
 -- document 01's number (0: done), the counts, the receiver, and what the two lent buffers hold
 pub record Outcome : Type 0 where

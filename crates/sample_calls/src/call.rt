@@ -1,13 +1,13 @@
 // A sample call: timing into the strobe buffer, then the carrier over the strobes produced, into the
 // output.
-use crate::record::Receiver;
+use receiver::Receiver;
 use values::Answer;
 use values::Refusal;
 ghost use mathlib.Core.Path.{_≡_};
 ghost use lib.ListN.{length};
 ghost use Rattle.values.specs.declared.progress.Answer.the-variants.{Refused};
 ghost use Rattle.receiver.specs.Record.{Given};
-ghost use Rattle.receiver.specs.Call.{countAfter, done, called, outcomeOf, answered};
+ghost use Rattle.sample_calls.specs.Call.{countAfter, done, called, outcomeOf, answered};
 
 // The largest symbol count.
 const TOP: u32 = 0xffff_ffff;

@@ -37,13 +37,13 @@ use Rattle.carrier.specs.Filter.{newFreq, advanced}
 use Rattle.carrier.specs.Step.{stepped}
 use Rattle.carrier.specs.Step as carrierStep
 use Rattle.carrier.specs.State.{paramsOf}
 use Rattle.receiver.specs.declared.record.Receiver.{Receiver}
 use Rattle.receiver.specs.declared.record.TimingValues.{TimingValues}
 use Rattle.receiver.specs.declared.record.CarrierValues.{CarrierValues}
 use Rattle.receiver.specs.Record.{timingParams, carrierParamsOf, fresh, opened, phaseSet}
-use Rattle.receiver.specs.Call.{done, called}
-use Rattle.receiver.specs.Calls.{Fresh, just-set-up, Call, after, TurnedCall, turnedCall, TurnedList}
-use Rattle.receiver.proofs.Laws.Turned.{turned-list}
+use Rattle.sample_calls.specs.Call.{done, called}
+use Rattle.sample_calls.specs.Calls.{Fresh, just-set-up, Call, after, TurnedCall, turnedCall, TurnedList}
+use Rattle.sample_calls.proofs.Laws.Turned.{turned-list}
 
 -- ---- a set-up that is accepted: sps 2, both bandwidths 1/16, both dampings 1/2, deviation 0, slope 1, offset 1/4
 abbrev sixteenth₀ : Float

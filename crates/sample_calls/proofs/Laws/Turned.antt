@@ -36,13 +36,13 @@ use Rattle.detectors.specs.Turns.{Allowed}
 use Rattle.carrier.proofs.Laws.Count.{runs-count}
 use Rattle.carrier.proofs.Laws.Turned.{TiedState, same-carrier}
 use Rattle.carrier.proofs.Laws.Turned as carrier
 use Rattle.receiver.specs.declared.record.Receiver.{Receiver}
 use Rattle.receiver.specs.declared.record.TimingValues.{TimingValues}
 use Rattle.receiver.specs.declared.record.CarrierValues.{CarrierValues}
 use Rattle.receiver.specs.Record.{timingParams, carrierParamsOf, fresh, phaseSet}
-use Rattle.receiver.specs.Call.{Outcome, refusedCall, done, oddAny, called}
-use Rattle.receiver.specs.Calls.{Fresh, just-set-up, just-reset, Call, callOf, leftBy, TurnedCall, turnedCall, outputsOf, TurnedOutcome, SameReceiver, TurnedList}
+use Rattle.sample_calls.specs.Call.{Outcome, refusedCall, done, oddAny, called}
+use Rattle.sample_calls.specs.Calls.{Fresh, just-set-up, just-reset, Call, callOf, leftBy, TurnedCall, turnedCall, outputsOf, TurnedOutcome, SameReceiver, TurnedList}
 use Rattle.receiver.proofs.Laws.Setup.{opened-is}
 
 -- ---- a receiver just set up or just reset, as data
 pub fresh-is : {c : CostasConstellation} {t : TimingValues} {v : CarrierValues} {r : Receiver} → Fresh c t v r → r ≡ fresh c (timingParams t) (carrierParamsOf v)

@@ -1,4 +1,4 @@
--- `receiver::run` meets its contract: an odd buffer is refused, then lengths that differ, and else the call is what `accepted` ensures. Assumes nothing.
+-- `sample_calls::run` meets its contract: an odd buffer is refused, then lengths that differ, and else the call is what `accepted` ensures. Assumes nothing.
 use mathlib.Core.Path.{_≡_, sym, ap, _∙_, subst}
 use mathlib.Core.Logic.{inl, inr}
 use mathlib.Core.Bool.{true, false}
@@ -8,14 +8,14 @@ use lib.ListN.{length}
 use Rattle.values.specs.declared.progress.Answer.the-variants.{Refused}
 use Rattle.values.specs.declared.error.Refusal.{Refusal}
 use Rattle.values.specs.declared.error.Refusal.the-variants.{Uneven, Odd}
-use Rattle.receiver.specs.declared.call.Ran.{Ran}
+use Rattle.sample_calls.specs.declared.call.Ran.{Ran}
 use Rattle.receiver.specs.Record.{Given}
-use Rattle.receiver.specs.Call.{Outcome, answered, refusedCall, oddAny, called}
-use Rattle.receiver.proofs.Laws.Refused.{odd-in-input, odd-in-strobes, odd-in-output, all-even, called-odd, called-uneven, called-done}
-use Rattle.receiver.proofs.Laws.Given.{called-given}
+use Rattle.sample_calls.specs.Call.{Outcome, answered, refusedCall, oddAny, called}
+use Rattle.sample_calls.proofs.Laws.Refused.{odd-in-input, odd-in-strobes, odd-in-output, all-even, called-odd, called-uneven, called-done}
+use Rattle.sample_calls.proofs.Laws.Given.{called-given}
 use borrow.Author.Needs.{needs}
-use Rattle.receiver.proofs.call.run.Statement.{statement}
-use Rattle.receiver.proofs.call.run.Tie as tie
+use Rattle.sample_calls.proofs.call.run.Statement.{statement}
+use Rattle.sample_calls.proofs.call.run.Tie as tie
 
 -- what the definition makes of the call
 abbrev calledAt : tie.Start → Outcome

@@ -1,0 +1,10 @@
+-- The laws of this crate's definitions.
+pub mod Refused
+pub mod Values
+pub mod Given
+pub mod Accepted
+pub mod Sparing
+pub mod Count
+pub mod Turned
+pub mod Premise
+pub mod Cases

@@ -1,0 +1,4 @@
+pub mod Call
+pub mod Calls
+pub mod Sparing
+pub mod Cases
