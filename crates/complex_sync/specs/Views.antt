@@ -20,7 +20,7 @@ abbrev pub hist : declaredHist.Hist → Hist C32
 hist h = record { a = h .a; b = h .b; c = h .c }
 
 abbrev pub track : declaredTrack.Track → Track C32
-track s = record { clock = s .clock; yPrev = s .«y_prev»; dPrev = s .«d_prev»; mid = s .mid; midReady = s .«mid_ready»; started = s .started }
+track t = record { clock = t .clock; yPrev = t .«y_prev»; dPrev = t .«d_prev»; mid = t .mid; midReady = t .«mid_ready»; started = t .started }
 
 abbrev pub sync : SymbolSyncState → Sync C32
 sync s = record { params = s .params; hist = hist (s .hist); track = track (s .track) }

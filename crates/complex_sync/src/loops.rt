@@ -79,22 +79,22 @@ fn value_at(h: Hist, input: &[f32], i: usize, mu: f64) -> C32
 // ---- One output place
 
 // The middle is taken, where it is lacking and can be worked out.
-fn take_mid(p: Params, h: Hist, s: Track, input: &[f32]) -> Track
-    requires { ⌜ Running p (s .clock) (loop.lacks p (track s)) (length (now input) / 2) ⌝ }
-    ensures { λ r. ⌜ track r ≡ loop.midTaken complex p (line h (now (input .entry))) (track s) ⌝ }
+fn take_mid(p: Params, h: Hist, t: Track, input: &[f32]) -> Track
+    requires { ⌜ Running p (t .clock) (loop.lacks p (track t)) (length (now input) / 2) ⌝ }
+    ensures { λ r. ⌜ track r ≡ loop.midTaken complex p (line h (now (input .entry))) (track t) ⌝ }
 {
     let ted = p.ted;
-    if lacks(ted, s.started, s.mid_ready) {
-        let at = mid_position(s.clock);
+    if lacks(ted, t.started, t.mid_ready) {
+        let at = mid_position(t.clock);
         if at.i <= input.len() / 2 {
             let m = value_at(h, input, at.i, at.mu);
-            let mut t = s;
+            let mut t = t;
             t.mid = m;
             t.mid_ready = true;
             return t;
         }
     }
-    s
+    t
 }
 
 // The decision that is kept: Gardner takes none.
@@ -108,25 +108,25 @@ fn decision(ted: Ted, d_prev: C32, y: C32) -> C32
 }
 
 // The detector's error at the strobe y with the decision d.
-fn error(ted: Ted, s: Track, y: C32, d: C32) -> f32
-    ensures { λ r. ⌜ r ≡ loop.errorOf complex ted (track s) y d ⌝ }
+fn error(ted: Ted, t: Track, y: C32, d: C32) -> f32
+    ensures { λ r. ⌜ r ≡ loop.errorOf complex ted (track t) y d ⌝ }
 {
     match ted {
-        Ted::Gardner => timing::complex::gardner(s.y_prev, y, s.mid),
-        Ted::MuellerMuller => timing::complex::mm(s.d_prev, y, d, s.y_prev),
+        Ted::Gardner => timing::complex::gardner(t.y_prev, y, t.mid),
+        Ted::MuellerMuller => timing::complex::mm(t.d_prev, y, d, t.y_prev),
     }
 }
 
 // What the strobe y changes.
-fn strobe(p: Params, s: Track, y: C32) -> Track
-    requires { ⌜ GivenStrobe p (s .clock) ⌝ }
-    ensures { λ r. ⌜ track r ≡ loop.strobed complex p (track s) y ⌝ }
+fn strobe(p: Params, t: Track, y: C32) -> Track
+    requires { ⌜ GivenStrobe p (t .clock) ⌝ }
+    ensures { λ r. ⌜ track r ≡ loop.strobed complex p (track t) y ⌝ }
 {
     let ted = p.ted;
-    let d = decision(ted, s.d_prev, y);
-    let clock = advance(p, s.clock, s.started, error(ted, s, y, d));
-    let mid = s.mid;
-    let mid_ready = mid_left(ted, s.mid_ready);
+    let d = decision(ted, t.d_prev, y);
+    let clock = advance(p, t.clock, t.started, error(ted, t, y, d));
+    let mid = t.mid;
+    let mid_ready = mid_left(ted, t.mid_ready);
     Track {
         clock: clock,
         y_prev: y,
@@ -146,16 +146,16 @@ struct Strobed {
 }
 
 // Strobes while an output place is left and the next one can be worked out.
-fn strobes(p: Params, h: Hist, s: Track, input: &[f32], output: &mut [f32]) -> Strobed
-    requires { ⌜ Running p (s .clock) (loop.lacks p (track s)) (length (now input) / 2) ⌝ }
-    ensures last { λ r. ⌜ track (r .track) ≡ loop.runs complex p (line h (now (input .entry))) (length (now (output .entry)) / 2) (track s) .last ⌝ }
-    ensures produced { λ r. ⌜ r .produced ≡ length (loop.runs complex p (line h (now (input .entry))) (length (now (output .entry)) / 2) (track s) .values) ⌝ }
-    ensures output { λ _. ⌜ now (output .exit) ≡ written (parts (loop.runs complex p (line h (now (input .entry))) (length (now (output .entry)) / 2) (track s) .values)) (now (output .entry)) ⌝ }
+fn strobes(p: Params, h: Hist, t: Track, input: &[f32], output: &mut [f32]) -> Strobed
+    requires { ⌜ Running p (t .clock) (loop.lacks p (track t)) (length (now input) / 2) ⌝ }
+    ensures last { λ r. ⌜ track (r .track) ≡ loop.runs complex p (line h (now (input .entry))) (length (now (output .entry)) / 2) (track t) .last ⌝ }
+    ensures produced { λ r. ⌜ r .produced ≡ length (loop.runs complex p (line h (now (input .entry))) (length (now (output .entry)) / 2) (track t) .values) ⌝ }
+    ensures output { λ _. ⌜ now (output .exit) ≡ written (parts (loop.runs complex p (line h (now (input .entry))) (length (now (output .entry)) / 2) (track t) .values)) (now (output .entry)) ⌝ }
 {
     let places = output.len() / 2;
     let n = input.len() / 2;
     let ted = p.ted;
-    let mut t = s;
+    let mut t = t;
     let mut produced = 0;
     while produced < places {
         t = take_mid(p, h, t, input);

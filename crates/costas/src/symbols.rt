@@ -35,16 +35,16 @@ fn least(a: usize, b: usize) -> usize
 fn symbols(
     constellation: CostasConstellation,
     p: Params,
-    track: Track,
+    t: Track,
     input: &[f32],
     output: &mut [f32],
 ) -> Track
-    ensures last { λ r. ⌜ r ≡ runs cosList constellation p track (reached (now (input .entry)) (now (output .entry))) .last ⌝ }
-    ensures output { λ _. ⌜ now (output .exit) ≡ written (parts (runs cosList constellation p track (reached (now (input .entry)) (now (output .entry))) .values)) (now (output .entry)) ⌝ }
+    ensures last { λ r. ⌜ r ≡ runs cosList constellation p t (reached (now (input .entry)) (now (output .entry))) .last ⌝ }
+    ensures output { λ _. ⌜ now (output .exit) ≡ written (parts (runs cosList constellation p t (reached (now (input .entry)) (now (output .entry))) .values)) (now (output .entry)) ⌝ }
 {
     let table = tables::cos_f32_table();
     let n = least(input.len() / 2, output.len() / 2);
-    let mut t = track;
+    let mut t = t;
     let mut k = 0;
     while k < n {
         let x = values::sample_at(input, k);

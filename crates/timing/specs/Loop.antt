@@ -23,7 +23,7 @@ pub record Track (A : Type 0) : Type 0 where
   pub started : Bool
 
 abbrev pub lacks : {A : Type 0} → Params → Track A → Bool
-lacks p s = lacking (p .ted) (s .started) (s .midReady)
+lacks p t = lacking (p .ted) (t .started) (t .midReady)
 
 -- ---- a value at (i, mu)
 -- "it can be worked out if i + 2 is at most n + 2": l has n + 3 samples
@@ -40,10 +40,10 @@ valueAt o l i mu = o .interp (getD l (i - 1) (o .zero)) (getD l i (o .zero)) (ge
 
 -- ---- the middle is taken first, where it is lacking and can be worked out
 abbrev pub withMid : {A : Type 0} → Track A → A → Track A
-withMid s m = record { clock = s .clock; yPrev = s .yPrev; dPrev = s .dPrev; mid = m; midReady = true; started = s .started }
+withMid t m = record { clock = t .clock; yPrev = t .yPrev; dPrev = t .dPrev; mid = m; midReady = true; started = t .started }
 
 unfoldable pub midTaken : {A : Type 0} → Ops A → Params → List A → Track A → Track A
-midTaken o p l s = let c = s .clock in cond (lacks p s && there l (midIndex c)) (withMid s (valueAt o l (midIndex c) (midPart c))) s
+midTaken o p l t = let c = t .clock in cond (lacks p t && there l (midIndex c)) (withMid t (valueAt o l (midIndex c) (midPart c))) t
 
 -- ---- the strobe y
 -- the decision kept: Gardner takes none
@@ -53,14 +53,14 @@ decision o MuellerMuller d y = o .decide y
 
 -- the detector's error, with the decision d of y
 unfoldable pub errorOf : {A : Type 0} → Ops A → Ted → Track A → A → A → Float
-errorOf o Gardner s y d = o .gardner (s .yPrev) y (s .mid)
-errorOf o MuellerMuller s y d = o .mm (s .dPrev) y d (s .yPrev)
+errorOf o Gardner t y d = o .gardner (t .yPrev) y (t .mid)
+errorOf o MuellerMuller t y d = o .mm (t .dPrev) y d (t .yPrev)
 
 unfoldable pub strobed : {A : Type 0} → Ops A → Params → Track A → A → Track A
-strobed o p s y =
-    let d = decision o (p .ted) (s .dPrev) y in
-    let e = settled (s .started) (errorOf o (p .ted) s y d) in
-    record { clock = advanced p (s .clock) e; yPrev = y; dPrev = d; mid = s .mid; midReady = midLeft (p .ted) (s .midReady); started = true }
+strobed o p t y =
+    let d = decision o (p .ted) (t .dPrev) y in
+    let e = settled (t .started) (errorOf o (p .ted) t y d) in
+    record { clock = advanced p (t .clock) e; yPrev = y; dPrev = d; mid = t .mid; midReady = midLeft (p .ted) (t .midReady); started = true }
 
 -- ---- "While an output place is left": n places, the values that they get, and the track after them
 pub record Strobes (A : Type 0) : Type 0 where
@@ -69,33 +69,33 @@ pub record Strobes (A : Type 0) : Type 0 where
 
 -- "If either can't be worked out, the run stops; a middle already taken is retained."
 abbrev pub ready : {A : Type 0} → Params → List A → Track A → Bool
-ready p l s = not (lacks p s) && there l (s .clock .i)
+ready p l t = not (lacks p t) && there l (t .clock .i)
 
 abbrev pub stopped : {A : Type 0} → Track A → Strobes A
-stopped s = record { values = []; last = s }
+stopped t = record { values = []; last = t }
 
 abbrev pub more : {A : Type 0} → A → Strobes A → Strobes A
 more y r = record { values = y ∷ r .values; last = r .last }
 
 unfoldable pub runs : {A : Type 0} → Ops A → Params → List A → ℕ → Track A → Strobes A
-runs o p l zero s = stopped s
-runs o p l (suc n) s =
-    let t = midTaken o p l s in
-    let y = valueAt o l (t .clock .i) (t .clock .mu) in
-    cond (ready p l t) (more y (runs o p l n (strobed o p t y))) (stopped t)
+runs o p l zero t = stopped t
+runs o p l (suc n) t =
+    let u = midTaken o p l t in
+    let y = valueAt o l (u .clock .i) (u .clock .mu) in
+    cond (ready p l u) (more y (runs o p l n (strobed o p u y))) (stopped u)
 
 -- ---- the end
 -- "the next place needed is the untaken middle's whole part (Gardner, started), else i"
 unfoldable pub pending : {A : Type 0} → Params → Track A → ℕ
-pending p s = cond (lacks p s) (midIndex (s .clock)) (s .clock .i)
+pending p t = cond (lacks p t) (midIndex (t .clock)) (t .clock .i)
 
 -- "Consumed is that minus 1, at most n."
 unfoldable pub consumed : {A : Type 0} → Params → Track A → ℕ → ℕ
-consumed p s n = min (pending p s - 1) n
+consumed p t n = min (pending p t - 1) n
 
 -- "i falls by the count consumed"
 abbrev pub clockBack : Clock → ℕ → Clock
 clockBack c k = record { i = c .i - k; mu = c .mu; omega = c .omega; integ = c .integ }
 
 unfoldable pub trackBack : {A : Type 0} → Track A → ℕ → Track A
-trackBack s k = record { clock = clockBack (s .clock) k; yPrev = s .yPrev; dPrev = s .dPrev; mid = s .mid; midReady = s .midReady; started = s .started }
+trackBack t k = record { clock = clockBack (t .clock) k; yPrev = t .yPrev; dPrev = t .dPrev; mid = t .mid; midReady = t .midReady; started = t .started }

@@ -18,13 +18,13 @@ use Rattle.complex_sync.proofs.loops.take_mid.Statement.{statement}
 use Rattle.complex_sync.proofs.loops.take_mid.Tie as tie
 
 -- where the middle's place is worked out, it is lacking
-lacking : (c : tie.Then1) → let a = c .before .before .before .args in lacks (a .p) (track (a .s)) ≡ true
+lacking : (c : tie.Then1) → let a = c .before .before .before .args in lacks (a .p) (track (a .t)) ≡ true
 lacking c = sym (c .before .lacks .ensures) ∙ c .if1 .taken
 
 mid-position-requires : tie.Need-mid-position-requires
 mid-position-requires c κs =
     let s = c .before .before .before in
-    (_, (s .args .p, subst (λ (b : Bool). Running (s .args .p) (s .args .s .clock) b (length (s .args .input .now) / 2)) (lacking c) (s .pre)))
+    (_, (s .args .p, subst (λ (b : Bool). Running (s .args .p) (s .args .t .clock) b (length (s .args .input .now) / 2)) (lacking c) (s .pre)))
 
 value-at-requires : tie.Need-value-at-requires
 value-at-requires c κs =
@@ -38,18 +38,18 @@ returns c =
     let place = c .before .before .before .mid-position .ensures in
     let i = ap (λ (q : Place). q .i) place in
     let m = c .value-at .ensures ∙ ap (λ (q : Place). valueAt complex (line (a .h) (a .input .now)) (q .i) (q .mu)) place in
-    mid-taken complex (a .p) (hist (a .h)) (samples (a .input .now)) _ (length-samples (a .input .now)) (track (a .s)) _ (lacking (c .before .before .before .before)) (omega arith) m
+    mid-taken complex (a .p) (hist (a .h)) (samples (a .input .now)) _ (length-samples (a .input .now)) (track (a .t)) _ (lacking (c .before .before .before .before)) (omega arith) m
 
 returns-2 : tie.Need-returns-2
 returns-2 c =
     let a = c .before .before .before .before .before .before .args in
     let i = ap (λ (q : Place). q .i) (c .before .before .mid-position .ensures) in
-    mid-too-far complex (a .p) (hist (a .h)) (samples (a .input .now)) _ (length-samples (a .input .now)) (track (a .s)) (lacking (c .before .before .before)) (omega arith)
+    mid-too-far complex (a .p) (hist (a .h)) (samples (a .input .now)) _ (length-samples (a .input .now)) (track (a .t)) (lacking (c .before .before .before)) (omega arith)
 
 returns-3 : tie.Need-returns-3
 returns-3 c =
     let a = c .before .before .before .args in
-    mid-not-lacking complex (a .p) (line (a .h) (a .input .now)) (track (a .s)) (sym (c .before .lacks .ensures) ∙ c .if1 .left)
+    mid-not-lacking complex (a .p) (line (a .h) (a .input .now)) (track (a .t)) (sym (c .before .lacks .ensures) ∙ c .if1 .left)
 
 pub take-mid-spec : {M : Type 1} → statement M
 take-mid-spec =

@@ -9,7 +9,7 @@ use Rattle.real_sync.proofs.loops.strobe.Tie as tie
 returns : tie.Need-returns
 returns c =
     let a = c .before .before .before .before .args in
-    strobed-parts real (a .p) (track (a .s)) (a .y) _ _ _ _
+    strobed-parts real (a .p) (track (a .t)) (a .y) _ _ _ _
     (c .before .before .before .decision .ensures)
     (c .before .before .error .ensures)
     (c .before .advance .ensures)

@@ -15,13 +15,13 @@ use Rattle.real_sync.proofs.loops.take_mid.Statement.{statement}
 use Rattle.real_sync.proofs.loops.take_mid.Tie as tie
 
 -- where the middle's place is worked out, it is lacking
-lacking : (c : tie.Then1) → let a = c .before .before .before .args in lacks (a .p) (track (a .s)) ≡ true
+lacking : (c : tie.Then1) → let a = c .before .before .before .args in lacks (a .p) (track (a .t)) ≡ true
 lacking c = sym (c .before .lacks .ensures) ∙ c .if1 .taken
 
 mid-position-requires : tie.Need-mid-position-requires
 mid-position-requires c κs =
     let s = c .before .before .before in
-    (_, (s .args .p, subst (λ (b : Bool). Running (s .args .p) (s .args .s .clock) b (length (s .args .input .now))) (lacking c) (s .pre)))
+    (_, (s .args .p, subst (λ (b : Bool). Running (s .args .p) (s .args .t .clock) b (length (s .args .input .now))) (lacking c) (s .pre)))
 
 value-at-requires : tie.Need-value-at-requires
 value-at-requires c κs =
@@ -35,18 +35,18 @@ returns c =
     let place = c .before .before .before .mid-position .ensures in
     let i = ap (λ (q : Place). q .i) place in
     let m = c .value-at .ensures ∙ ap (λ (q : Place). valueAt real (line (a .h) (a .input .now)) (q .i) (q .mu)) place in
-    mid-taken real (a .p) (hist (a .h)) (a .input .now) _ refl (track (a .s)) _ (lacking (c .before .before .before .before)) (omega arith) m
+    mid-taken real (a .p) (hist (a .h)) (a .input .now) _ refl (track (a .t)) _ (lacking (c .before .before .before .before)) (omega arith) m
 
 returns-2 : tie.Need-returns-2
 returns-2 c =
     let a = c .before .before .before .before .before .before .args in
     let i = ap (λ (q : Place). q .i) (c .before .before .mid-position .ensures) in
-    mid-too-far real (a .p) (hist (a .h)) (a .input .now) _ refl (track (a .s)) (lacking (c .before .before .before)) (omega arith)
+    mid-too-far real (a .p) (hist (a .h)) (a .input .now) _ refl (track (a .t)) (lacking (c .before .before .before)) (omega arith)
 
 returns-3 : tie.Need-returns-3
 returns-3 c =
     let a = c .before .before .before .args in
-    mid-not-lacking real (a .p) (line (a .h) (a .input .now)) (track (a .s)) (sym (c .before .lacks .ensures) ∙ c .if1 .left)
+    mid-not-lacking real (a .p) (line (a .h) (a .input .now)) (track (a .t)) (sym (c .before .lacks .ensures) ∙ c .if1 .left)
 
 pub take-mid-spec : {M : Type 1} → statement M
 take-mid-spec =
