@@ -7,7 +7,6 @@ mod state;
 mod symbol;
 
 pub use constellations::CostasConstellation;
-pub use constellations::octant;
 pub use detectors::Lock;
 pub use detectors::derotate;
 pub use filter::Nco;

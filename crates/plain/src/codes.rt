@@ -1,5 +1,5 @@
 // The numbers that stand for the enums, as bindings/c/train_receiver.h names them.
-use carrier::CostasConstellation;
+use constellations::CostasConstellation;
 use timing::Ted;
 ghost use mathlib.Core.Path.{_≡_};
 ghost use Rattle.plain.specs.Codes.{detectorOf, detectorCode, constellationOf, constellationCode};

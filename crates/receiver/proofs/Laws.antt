@@ -1,4 +1,3 @@
 -- The laws of this crate's definitions.
 pub mod Setup
 pub mod Values
-pub mod Given

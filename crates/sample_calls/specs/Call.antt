@@ -1,5 +1,5 @@
 -- A sample call: when it is refused, and with what number, counts, receiver and buffers it ends. Definitions only.
-use Prim.Native.Nat.{ℕ, _+_, _*_, _%_}
+use Prim.Native.Nat.{ℕ, _+_, _*_}
 use mathlib.Core.Bool.{Bool, not, _&&_, _||_, cond}
 use mathlib.Core.List.{List}
 use lib.Dec.{eqb, ltb}
@@ -10,7 +10,7 @@ use Rattle.values.specs.declared.error.Refusal.{Refusal}
 use Rattle.values.specs.declared.error.Refusal.the-variants.{Uneven, Odd}
 use Rattle.values.specs.Refusal.{numberOf}
 use Rattle.values.specs.Answer as answer
-use Rattle.values.specs.Buffers.{written, oddEither}
+use Rattle.values.specs.Buffers.{written, oddEither, odd}
 use Rattle.timing.specs.Run.{doneComplex}
 use Rattle.complex_sync.specs.Views.{sync, stateOf}
 use Rattle.carrier.specs.Run as carrier
@@ -60,7 +60,7 @@ done r xs zs ys =
 
 -- number 8: "a complex buffer has an odd count of f32"
 abbrev pub oddAny : List Float → List Float → List Float → Bool
-oddAny xs zs ys = oddEither xs zs || eqb (length ys % 2) 1
+oddAny xs zs ys = oddEither xs zs || odd ys
 
 -- "in a run 8 before 7"; number 7: "the receiver's strobe buffer and output differ in length"
 unfoldable pub called : Receiver → List Float → List Float → List Float → Outcome

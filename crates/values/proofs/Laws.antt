@@ -3,3 +3,4 @@ pub mod Samples
 pub mod Turn
 pub mod Calls
 pub mod Buffers
+pub mod Refusal

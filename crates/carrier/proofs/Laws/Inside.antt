@@ -6,8 +6,8 @@ use lib.ListN.{length}
 use lib.Ieee.{Float}
 use Rattle.values.specs.declared.sample.C32.{C32}
 use Rattle.values.specs.Samples.{samples}
-use Rattle.cosine.specs.Bits.{cosBits}
 use Rattle.cosine.specs.Table.{cosList}
+use Rattle.cosine.proofs.Laws.Rules.{length-cos}
 use Rattle.constellations.specs.declared.kinds.CostasConstellation.{CostasConstellation}
 use Rattle.constellations.specs.Octant.{points8}
 use Rattle.constellations.proofs.Laws.Octant.{octant-below}
@@ -20,11 +20,7 @@ use Rattle.carrier.specs.Step.{outputOf, stepped}
 use Rattle.carrier.proofs.Laws.Setup.{Limits, limits}
 use Rattle.carrier.proofs.Laws.Given.{Kept, stepped-kept}
 
--- ---- the lengths of the tables
-cosines : length cosList ≡ 4097
-unfolding cosList cosBits
-cosines = refl
-
+-- ---- the length of the eight points
 points : length points8 ≡ 8
 unfolding points8
 points = refl
@@ -33,8 +29,8 @@ points = refl
 kept-inside : (p : Params) (t : Track) (x : C32) → Kept p (t .nco) → Inside t x
 kept-inside p t x k =
     record {
-      cosine = omega (arith, cosines, k .phase-in);
-      sine = omega (arith, cosines, k .phase-in);
+      cosine = omega (arith, length-cos, k .phase-in);
+      sine = omega (arith, length-cos, k .phase-in);
       point = omega (arith, points, octant-below (outputOf cosList t x));
     }
 

@@ -47,7 +47,6 @@ every-row c p e = accepted-is setUpNumber Refused (λ n. refl) (Ready (fresh c (
 pub record Limits (p : Params) : Type 0 where
   pub bw-in : T (inRange (decimal binary64 1 10000) (p .«loop_bw») (decimal binary64 2 10))
   pub damping-in : T (inRange (decimal binary64 1 10) (p .damping) (decimal binary64 4 1))
-  pub offset-in : T (inRange zero₀ (p .«max_offset») (decimal binary64 25 100))
   pub max-finite : T (finite (p .max))
   pub max-low : T (le zero₀ (p .max))
   pub worked : paramsOf (p .«loop_bw») (p .damping) (p .«max_offset») ≡ p
@@ -69,7 +68,6 @@ limits c p e =
     record {
       bw-in = r .0;
       damping-in = r .1 .0;
-      offset-in = r .1 .1 .0;
       max-finite = subst (λ (q : Params). T (finite (q .max))) w (l .0);
       max-low = subst (λ (q : Params). T (le zero₀ (q .max))) w (l .1);
       worked = w;

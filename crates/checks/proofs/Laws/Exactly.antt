@@ -6,21 +6,10 @@ use mathlib.Core.Bool.{Bool, true, false, cond}
 use mathlib.Core.List.{List, [], _∷_}
 use lib.Dec.{T}
 use Rattle.values.specs.declared.error.Refusal.{Refusal}
-use Rattle.values.specs.declared.error.Refusal.the-variants.{Pace, Width, Damping, Pull, Slope, Gains, Uneven, Odd}
 use Rattle.values.specs.Refusal.{numberOf}
+use Rattle.values.proofs.Laws.Refusal.{refused-above}
 use Rattle.checks.specs.Table.{Row, firstOf, Passed, First, here, later, Exactly}
 use Rattle.checks.proofs.Laws.Rows.{first-passed, first-refused, first-all}
-
--- no refusal has the number 0
-numbered : (n : Refusal) → 0 < numberOf n
-numbered Pace = omega arith
-numbered Width = omega arith
-numbered Damping = omega arith
-numbered Pull = omega arith
-numbered Slope = omega arith
-numbered Gains = omega arith
-numbered Uneven = omega arith
-numbered Odd = omega arith
 
 -- ---- the number alone
 abbrev firstNumber : List Row → ℕ
@@ -46,7 +35,7 @@ all-passed (r ∷ l) e = by (r .passed) (all-passed l) e
   where
     by : (b : Bool) → (firstNumber l ≡ 0 → Passed l) → cond b (firstNumber l) (numberOf (r .reason)) ≡ 0 → T b × Passed l
     by true f e = (tt, f e)
-    by false f e = absurd (omega (arith, numbered (r .reason)))
+    by false f e = absurd (omega (arith, refused-above (r .reason)))
 
 -- ---- of answers with numbers
 module _ {A : Type 0} (number : A → ℕ) (refuse : Refusal → A) (refused : (n : Refusal) → number (refuse n) ≡ numberOf n) (t : A) (accepted : number t ≡ 0) where

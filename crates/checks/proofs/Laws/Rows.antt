@@ -4,6 +4,7 @@ use mathlib.Core.Bool.{Bool, true, false, not, cond}
 use mathlib.Core.List.{List, [], _∷_, _++_}
 use lib.Ieee.Bits.{is-true}
 use Rattle.values.specs.declared.error.Refusal.{Refusal}
+use Rattle.ieee.proofs.Laws.Test.{not-false}
 use Rattle.checks.specs.Table.{Row, firstOf, Passed}
 
 module _ {A : Type 0} (refuse : Refusal → A) where
@@ -45,10 +46,6 @@ first-map {A} {B} f refuse (r ∷ l) t = by (r .passed) ∙ ap (λ (x : B). cond
     by false = refl
 
 -- ---- a test r for b that the code turns round
-not-false : (b : Bool) → not b ≡ false → b ≡ true
-not-false true e = refl
-not-false false e = sym e
-
 not-true : (b : Bool) → not b ≡ true → b ≡ false
 not-true true e = sym e
 not-true false e = refl

@@ -16,7 +16,8 @@ use Rattle.ieee.specs.Fraction.{plus, less}
 use Rattle.ieee.proofs.Laws.Algebra.{add-swap, mul-negs}
 use Rattle.ieee.proofs.Laws.Order.{finite-number, not-le→lt, lt→le, lt→cross, less-none}
 use Rattle.ieee.proofs.Laws.Like.{like-refl, like-square, like-sub-x}
-use Rattle.ieee.proofs.Laws.NotFinite.{finite-difference, finite-product, quotient-nan, Reaches, sum-at-least, difference-at-least, product-at-least, square-at-least, at-least-inf}
+use Rattle.ieee.specs.Bounds.{Reaches}
+use Rattle.ieee.proofs.Laws.NotFinite.{finite-difference, finite-product, quotient-nan, sum-at-least, difference-at-least, product-at-least, square-at-least, at-least-inf}
 use Rattle.ieee.proofs.Laws.Scaled.{scaled-swap}
 use Rattle.values.specs.declared.sample.C32.{C32}
 use Rattle.values.specs.Turn.{turn, AlikeSample}

@@ -12,6 +12,11 @@ yes e = subst T (sym e) tt
 pub no : {b : Bool} → b ≡ false → T (not b)
 no e = subst (λ (t : Bool). T (not t)) (sym e) tt
 
+-- a test that is turned round
+pub not-false : (b : Bool) → not b ≡ false → b ≡ true
+not-false true e = refl
+not-false false e = sym e
+
 -- two tests that imply each other are the same
 pub same-test : (a b : Bool) → (T a → T b) → (T b → T a) → a ≡ b
 same-test true true p q = refl

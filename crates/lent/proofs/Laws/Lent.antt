@@ -10,7 +10,7 @@ use mir.Syntax.{Name, named, Body as Code, Fn}
 use mir.Raw.{raw as rawTy}
 use mir.Val.{Val, vptr}
 use base.Logic.{SProp, ent, sep, assoc∗, id⊢}
-use base.Fml.{GName, Share, Fml, fsep, fat, froom, fdies, flft, fobs, fauth, fbor, fobor}
+use base.Fml.{GName, Fml, fsep, fat, froom, fdies, flft, fobs, fauth, fbor, fobor}
 use prog.Model.{Model}
 use prog.Routine.{Routine, Env as Routines}
 use prog.Wp.{Heap, Env, Calls, Loops, WpFn, Closed}

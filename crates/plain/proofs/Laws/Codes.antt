@@ -4,8 +4,8 @@ use Prim.Native.Nat.{ℕ, zero, suc, _<_}
 use native.Mathlib.Omega.{arith}
 use lib.Dec.{lit<}
 use Rattle.values.specs.declared.error.Refusal.{Refusal}
-use Rattle.values.specs.declared.error.Refusal.the-variants.{Pace, Width, Damping, Pull, Slope, Gains, Uneven, Odd}
 use Rattle.values.specs.Refusal.{numberOf}
+use Rattle.values.proofs.Laws.Refusal.{refused-above}
 use Rattle.timing.specs.declared.params.Ted.{Ted}
 use Rattle.timing.specs.declared.params.Ted.the-variants.{Gardner, MuellerMuller}
 use Rattle.constellations.specs.declared.kinds.CostasConstellation.{CostasConstellation}
@@ -44,16 +44,5 @@ constellation-code-back (suc (suc zero)) h = refl
 constellation-code-back (suc (suc (suc n))) h = omega arith
 
 -- ---- refusals
--- no refusal has the number 0, which says that a call is done
-refused-above : (n : Refusal) → 0 < numberOf n
-refused-above Pace = lit< tt
-refused-above Width = lit< tt
-refused-above Damping = lit< tt
-refused-above Pull = lit< tt
-refused-above Slope = lit< tt
-refused-above Gains = lit< tt
-refused-above Uneven = lit< tt
-refused-above Odd = lit< tt
-
 pub refused-not-done : {A : Type 0} (n : Refusal) {m : ℕ} → m ≡ numberOf n → m ≡ 0 → A
 refused-not-done n e z = absurd (omega (arith, refused-above n))

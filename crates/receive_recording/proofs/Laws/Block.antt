@@ -4,11 +4,12 @@ use mathlib.Core.Bool.{Bool, true, false, not, _||_, cond}
 use mathlib.Core.List.{List}
 use Prim.Native.Nat.{ℕ, suc, _+_, _-_, _*_, _/_, _≤_, _<_}
 use native.Mathlib.Omega.{arith}
-use lib.Dec.{T, eqb, leb}
+use lib.Dec.{T, leb}
 use lib.ListN.{length, length-drop, take, drop}
 use lib.Seq.{take-all, drop-drop}
 use lib.Ieee.{Float}
 use borrow.Author.Tests.{eq-eqb, ne-eqb, le-leb, lt-leb}
+use Rattle.ieee.proofs.Laws.Test.{not-false}
 use Rattle.receiver.specs.declared.record.Receiver.{Receiver}
 use Rattle.receiver.specs.Record.{Given}
 use Rattle.sample_calls.specs.Call.{Outcome}
@@ -16,13 +17,7 @@ use Rattle.receive_recording.specs.declared.block.Called.{Called}
 use Rattle.receive_recording.specs.declared.block.Received.{Received}
 use Rattle.receive_recording.specs.Block.{callOn, calledOf, endedBy, final, received}
 
--- ---- what the test of the loop says of the symbols
--- they were written
-is-written : (b : Bool) → not b ≡ false → b ≡ true
-is-written true e = refl
-is-written false e = absurd (subst T e tt)
-
--- they were not
+-- ---- the test of the loop says that the symbols were not written
 pub unwritten : (h : Called) {z : Received} → z ≡ endedBy h → not (h .written) ≡ true → T (z .written) → ⊥
 unwritten h e off on = go (h .written) off (subst T (ap (λ (q : Received). q .written) e) on)
   where
@@ -52,7 +47,7 @@ module _ {xs : List Float} {r₀ r : Receiver} {at left : ℕ} (u : Underway xs 
 
     same : h ≡ calledOf o true
     unfolding o
-    same = e ∙ (λ j. calledOf (callOn r (take-all (length xs - at) (drop at xs) (rw length-drop (omega arith)) j)) (is-written (h .written) put j))
+    same = e ∙ (λ j. calledOf (callOn r (take-all (length xs - at) (drop at xs) (rw length-drop (omega arith)) j)) (not-false (h .written) put j))
 
     turn : received left r (drop at xs) ≡ cond (final (drop at xs) o) (endedBy (calledOf o true)) (received (left - 1) (o .receiver) (drop (2 * o .consumed) (drop at xs)))
     unfolding received o

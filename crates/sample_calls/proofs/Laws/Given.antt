@@ -20,9 +20,9 @@ use Rattle.receiver.specs.Record.{Given}
 use Rattle.sample_calls.specs.Call.{Outcome, top, countAfter, refusedCall, done, oddAny, called}
 
 -- the count stays in 32 bits
-held-in : (count n : ℕ) → countAfter count n < 2 ^ 32
+count-below : (count n : ℕ) → countAfter count n < 2 ^ 32
 unfolding countAfter
-held-in count n = go (ltb top (count + n)) refl
+count-below count n = go (ltb top (count + n)) refl
   where
     go : (b : Bool) → ltb top (count + n) ≡ b → cond b top (count + n) < 2 ^ 32
     go true h = lit< tt
@@ -35,7 +35,7 @@ done-given r xs zs ys g =
     record {
       timing = ran-given complex (sync (r .timing)) (samples xs) (length zs / 2) (g .timing);
       carrier = carrier.done-given (r .carrier) (take (2 * t .produced) (t .output)) (g .carrier);
-      count-in = held-in (r .count) (t .produced);
+      count-in = count-below (r .count) (t .produced);
     }
 
 pub called-given : (r : Receiver) (xs zs ys : List Float) → Given r → Given (called r xs zs ys .receiver)

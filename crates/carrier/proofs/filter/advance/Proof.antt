@@ -8,9 +8,6 @@ use Rattle.carrier.specs.Filter.{advanced}
 use borrow.Author.Needs.{needs}
 use Rattle.carrier.proofs.filter.advance.Statement.{statement}
 use Rattle.carrier.proofs.filter.advance.Tie as tie
-use Rattle.carrier.proofs.filter.coast.Reads as coast-reads
-use Rattle.carrier.proofs.filter.steer.Reads as steer-reads
-use Rattle.numbers.proofs.is_finite_f32.Reads as is-finite-f32-reads
 
 -- the error, or 0
 abbrev picked : Float → Bool → Float

@@ -11,11 +11,6 @@ use Rattle.carrier.specs.Filter.{newFreq, advanced}
 use borrow.Author.Needs.{needs}
 use Rattle.carrier.proofs.filter.coast.Statement.{statement}
 use Rattle.carrier.proofs.filter.coast.Tie as tie
-use Rattle.modulate.proofs.phase_step.Reads as phase-step-reads
-use Rattle.numbers.proofs.flush_denormal.Reads as flush-denormal-reads
-use Rattle.numbers.proofs.limit_f32.Reads as limit-f32-reads
-use Rattle.numbers.proofs.widen.Reads as widen-reads
-use Rattle.std.proofs.num.wrapping_add_u32.Reads as wrapping-add-u32-reads
 
 returns : tie.Need-returns
 unfolding newFreq advanced ofBits

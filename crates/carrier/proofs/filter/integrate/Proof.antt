@@ -6,9 +6,6 @@ use Rattle.carrier.proofs.Laws.Untouched.{untouched-inside}
 use borrow.Author.Needs.{needs}
 use Rattle.carrier.proofs.filter.integrate.Statement.{statement}
 use Rattle.carrier.proofs.filter.integrate.Tie as tie
-use Rattle.constellations.proofs.size.Reads as size-reads
-use Rattle.numbers.proofs.flush_denormal.Reads as flush-denormal-reads
-use Rattle.numbers.proofs.limit_f32.Reads as limit-f32-reads
 
 returns : tie.Need-returns
 unfolding ofBits round

@@ -8,9 +8,6 @@ use Rattle.carrier.specs.Filter.{newFreq, advanced}
 use borrow.Author.Needs.{needs}
 use Rattle.carrier.proofs.filter.steer.Statement.{statement}
 use Rattle.carrier.proofs.filter.steer.Tie as tie
-use Rattle.carrier.proofs.filter.integrate.Reads as integrate-reads
-use Rattle.modulate.proofs.phase_step_f32.Reads as phase-step-f32-reads
-use Rattle.std.proofs.num.wrapping_add_u32.Reads as wrapping-add-u32-reads
 
 returns : tie.Need-returns
 unfolding newFreq advanced

@@ -8,11 +8,6 @@ use Rattle.carrier.specs.Step.{stepped}
 use borrow.Author.Needs.{needs}
 use Rattle.carrier.proofs.symbol.step.Statement.{statement}
 use Rattle.carrier.proofs.symbol.step.Tie as tie
-use Rattle.detectors.proofs.detector.Reads as detector-reads
-use Rattle.carrier.proofs.filter.advance.Reads as advance-reads
-use Rattle.detectors.proofs.lock_metric.Reads as lock-metric-reads
-use Rattle.detectors.proofs.watch.Reads as watch-reads
-use Rattle.constellations.proofs.decide.Reads as decide-reads
 
 returns : tie.Need-returns
 unfolding stepped errorOf

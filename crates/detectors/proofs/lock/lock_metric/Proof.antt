@@ -9,8 +9,6 @@ use Rattle.detectors.specs.Lock.{metricOf}
 use borrow.Author.Needs.{needs}
 use Rattle.detectors.proofs.lock.lock_metric.Statement.{statement}
 use Rattle.detectors.proofs.lock.lock_metric.Tie as tie
-use Rattle.detectors.proofs.lock.measure.Reads as measure-reads
-use Rattle.numbers.proofs.is_finite_f32.Reads as is-finite-f32-reads
 
 -- a measure, by whether it is finite
 abbrev told : Bool → Float → Metric

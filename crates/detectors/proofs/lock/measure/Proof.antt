@@ -4,9 +4,6 @@ use Rattle.detectors.specs.Lock.{measured}
 use borrow.Author.Needs.{needs}
 use Rattle.detectors.proofs.lock.measure.Statement.{statement}
 use Rattle.detectors.proofs.lock.measure.Tie as tie
-use Rattle.detectors.proofs.lock.measure2.Reads as measure2-reads
-use Rattle.detectors.proofs.lock.measure4.Reads as measure4-reads
-use Rattle.detectors.proofs.lock.measure8.Reads as measure8-reads
 
 returns : tie.Need-returns
 unfolding measured

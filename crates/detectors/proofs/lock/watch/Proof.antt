@@ -6,8 +6,6 @@ use Rattle.detectors.specs.Lock.{smoothed, lockAfter, watched}
 use borrow.Author.Needs.{needs}
 use Rattle.detectors.proofs.lock.watch.Statement.{statement}
 use Rattle.detectors.proofs.lock.watch.Tie as tie
-use Rattle.detectors.proofs.lock.hold.Reads as hold-reads
-use Rattle.numbers.proofs.flush_denormal.Reads as flush-denormal-reads
 
 -- the lock detector at a level
 abbrev at : Lock → Float → Lock

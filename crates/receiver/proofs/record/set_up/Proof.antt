@@ -4,7 +4,6 @@ use lib.Dec.{lit<}
 use Rattle.timing.specs.Run.{OpeningGiven}
 use Rattle.complex_sync.specs.declared.state.SetUp as timingSetUp
 use Rattle.complex_sync.specs.Views.{opening}
-use Rattle.carrier.specs.declared.state.SetUp as carrierSetUp
 use Rattle.carrier.specs.State.{SetUpGiven}
 use Rattle.receiver.specs.Record.{opened}
 use Rattle.receiver.proofs.Laws.Setup.{withTiming, joinedAnswer, tunedBy, opened-joined, after-ready, after-refused}
