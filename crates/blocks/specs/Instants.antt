@@ -12,11 +12,11 @@ use Rattle.timing.specs.Run.{Sync, line}
 
 -- the clock at each strobe of a run: `runs` of timing, with the clock in the place of the value
 unfoldable pub clocks : {A : Type 0} → Ops A → Params → List A → ℕ → Track A → List Clock
-clocks o p l zero s = []
-clocks o p l (suc n) s =
-    let t = midTaken o p l s in
-    let y = valueAt o l (t .clock .i) (t .clock .mu) in
-    cond (ready p l t) (t .clock ∷ clocks o p l n (strobed o p t y)) []
+clocks o p l zero t = []
+clocks o p l (suc n) t =
+    let u = midTaken o p l t in
+    let y = valueAt o l (u .clock .i) (u .clock .mu) in
+    cond (ready p l u) (u .clock ∷ clocks o p l n (strobed o p u y)) []
 
 -- a sample, and the fraction of a sample after it; neither is rounded
 pub record Instant : Type 0 where

@@ -1,4 +1,5 @@
 pub mod Instants
+pub mod Runs
 pub mod Timing
 pub mod Carrier
 pub mod Receiver

@@ -1,5 +1,6 @@
 pub mod Notation
 pub mod Alike
 pub mod Magnitude
+pub mod Bounds
 pub mod Fraction
 pub mod Rounding

@@ -31,9 +31,13 @@ pub record Sync (A : Type 0) : Type 0 where
   pub hist : Hist A
   pub track : Track A
 
+-- what holds of a track while a run loops, with n samples of input
+abbrev pub TrackRunning : {A : Type 0} → Params → ℕ → Track A → Type 0
+TrackRunning p n t = Running p (t .clock) (lacks p t) n
+
 -- a state that a set-up, a reset or a run has given: all that a public call requires
 abbrev pub Given : {A : Type 0} → Sync A → Type 0
-Given s = Running (s .params) (s .track .clock) (lacks (s .params) (s .track)) 0
+Given s = TrackRunning (s .params) 0 (s .track)
 
 -- "Fresh or reset: three history samples zero, position i = 4, fraction mu = 0, spacing omega = sps, integ = 0, previous values zero, not started, no middle sample."
 abbrev pub fresh : {A : Type 0} → Ops A → Params → Sync A

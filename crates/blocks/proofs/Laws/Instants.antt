@@ -14,7 +14,7 @@ use Rattle.timing.specs.Run.{Sync, line, ran}
 use Rattle.timing.proofs.Laws.Loop.{valueHere}
 use Rattle.timing.proofs.Laws.Taken.{mid-stays}
 use Rattle.blocks.specs.Instants.{clocks, Instant, instantOf, later, instants}
-use Rattle.blocks.proofs.Laws.Shifted.{clockOn}
+use Rattle.blocks.specs.Runs.{clockOn}
 
 -- ---- k places on
 instant-on : (k : ℕ) (c : Clock) → instantOf (clockOn k c) ≡ later k (instantOf c)

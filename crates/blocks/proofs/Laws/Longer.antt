@@ -6,7 +6,6 @@ use Prim.Native.Nat.{ℕ, zero, suc, _+_, _-_, _≤_}
 use native.Mathlib.Nat.{sub-zero, suc-sub-suc}
 use native.Mathlib.Omega.{arith}
 use borrow.Author.Tests.{lt-ltb, ltb-true}
-use lib.Dec.{ltb}
 use lib.ListN.{length, getD, length-append, List·getD-append}
 use lib.Ieee.{Float}
 use Rattle.ieee.proofs.Laws.Test.{both-tests}
@@ -19,6 +18,7 @@ use Rattle.timing.specs.Loop.{Track, Strobes, lacks, there, valueAt, withMid, m
 use Rattle.timing.proofs.Laws.Loop.{held-not-lacking, valueHere}
 use Rattle.timing.proofs.Laws.Taken.{middle, mid-by, mid-not-lacking}
 use Rattle.blocks.specs.Instants.{clocks}
+use Rattle.blocks.specs.Runs.{Continues}
 
 -- ---- a place of a run, with the middle taken: the strobes from here on, and the clocks
 module _ {A : Type 0} (o : Ops A) (p : Params) (l : List A) (n : ℕ) (t : Track A) where
@@ -71,13 +71,7 @@ module _ {A : Type 0} (o : Ops A) (p : Params) (l ys : List A) where
       (rw (taken, r .0, near, value), rw (taken, r .0, near, value))
 
   -- ---- a run
-  -- what a run among more samples is, that goes on after q with n places in all
-  abbrev GoesOn : ℕ → Strobes A → List Clock → Strobes A → List Clock → Type 0
-  GoesOn n q cs r ds =
-      let k = n - length (q .values) in
-      (r ≡ record { values = q .values ++ runs o p (l ++ ys) k (q .last) .values; last = runs o p (l ++ ys) k (q .last) .last }) × (ds ≡ cs ++ clocks o p (l ++ ys) k (q .last))
-
-  pub runs-longer : (n m : ℕ) (s : Track A) → n ≤ m → GoesOn m (runs o p l n s) (clocks o p l n s) (runs o p (l ++ ys) m s) (clocks o p (l ++ ys) m s)
+  pub runs-longer : (n m : ℕ) (s : Track A) → n ≤ m → Continues o p (l ++ ys) m (runs o p l n s) (clocks o p l n s) (runs o p (l ++ ys) m s) (clocks o p (l ++ ys) m s)
   unfolding runs clocks
   runs-longer zero m s h = (rw sub-zero, rw sub-zero)
   runs-longer (suc n) zero s h = absurd (omega arith)
@@ -86,8 +80,8 @@ module _ {A : Type 0} (o : Ops A) (p : Params) (l ys : List A) where
       go (ready p l t) refl (runs-longer n m (strobed o p t (valueHere o l t)) (omega arith))
     where
       go : (b : Bool) → let t = midTaken o p l s in let v = strobed o p t (valueHere o l t) in let u = midTaken o p (l ++ ys) s in ready p l t ≡ b
-          → GoesOn m (runs o p l n v) (clocks o p l n v) (runs o p (l ++ ys) m v) (clocks o p (l ++ ys) m v)
-          → GoesOn (suc m) (turn o p l n t) (turnClocks o p l n t) (turn o p (l ++ ys) m u) (turnClocks o p (l ++ ys) m u)
+          → Continues o p (l ++ ys) m (runs o p l n v) (clocks o p l n v) (runs o p (l ++ ys) m v) (clocks o p (l ++ ys) m v)
+          → Continues o p (l ++ ys) (suc m) (turn o p l n t) (turnClocks o p l n t) (turn o p (l ++ ys) m u) (turnClocks o p (l ++ ys) m u)
       go true e rest =
           let t = midTaken o p l s in
           let f = strobe-first s m e in

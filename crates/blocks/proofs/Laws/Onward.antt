@@ -14,12 +14,13 @@ use Rattle.timing.specs.Sample.{Ops}
 use Rattle.timing.specs.Clock.{advanced}
 use Rattle.timing.specs.Given.{Running}
 use Rattle.timing.specs.Loop.{Track, Strobes, lacks, midTaken, strobed, ready, stopped, more, runs, consumed, trackBack}
-use Rattle.timing.specs.Run.{Sync, Given, line, ran}
+use Rattle.timing.specs.Run.{Sync, Given, line, ran, TrackRunning}
 use Rattle.timing.proofs.Laws.Strobe.{v-onward, advanced-i}
 use Rattle.timing.proofs.Laws.Clock.{settled-finite, running-more}
-use Rattle.timing.proofs.Laws.Loop.{TrackRunning, valueHere, ready-window, midTaken-running, strobed-running, runs-running}
+use Rattle.timing.proofs.Laws.Loop.{valueHere, ready-window, midTaken-running, strobed-running, runs-running}
 use Rattle.timing.proofs.Laws.Run.{ran-all}
 use Rattle.timing.proofs.Laws.Taken.{mid-stays}
+use Rattle.blocks.specs.Runs.{Onward}
 use Rattle.blocks.proofs.Laws.Timing.{pending-first}
 
 advanced-onward : (p : Params) (c : Clock) (b : Bool) (n : ℕ) → Running p c b n → (e : Float) → T (finite e) → c .i + 1 ≤ advanced p c e .i
@@ -34,21 +35,17 @@ module _ {A : Type 0} (o : Ops A) (p : Params) (l : List A) (n : ℕ) (long : le
   unfolding strobed
   strobed-onward s y g = advanced-onward p (s .clock) (lacks p s) n g _ (settled-finite (s .started) _)
 
-  -- how far a run from place i gets, and how many values it has
-  abbrev Onward : ℕ → Strobes A → Type 0
-  Onward i r = (i + length (r .values) ≤ r .last .clock .i) × (length (r .values) ≤ n + 1 - i)
-
-  pub runs-onward : (m : ℕ) (s : Track A) → TrackRunning p n s → Onward (s .clock .i) (runs o p l m s)
+  pub runs-onward : (m : ℕ) (s : Track A) → TrackRunning p n s → Onward n (s .clock .i) (runs o p l m s)
   unfolding runs
   runs-onward zero s g = (omega arith, omega arith)
   runs-onward (suc m) s g =
       let t = midTaken o p l s in
       let f = midTaken-running o p l n long s g in
       let y = valueHere o l t in
-      subst (λ (c : Clock). Onward (c .i) (runs o p l (suc m) s)) (mid-stays o p l s)
+      subst (λ (c : Clock). Onward n (c .i) (runs o p l (suc m) s)) (mid-stays o p l s)
       (go t (strobed o p t y) y (ready p l t) (λ e. ready-window p l n long t e f .1) (strobed-onward t y f) (λ e. runs-onward m (strobed o p t y) (strobed-running o p l n long t y e f)))
     where
-      go : (t v : Track A) (y : A) (b : Bool) → (b ≡ true → t .clock .i ≤ n) → t .clock .i + 1 ≤ v .clock .i → (b ≡ true → Onward (v .clock .i) (runs o p l m v)) → Onward (t .clock .i) (cond b (more y (runs o p l m v)) (stopped t))
+      go : (t v : Track A) (y : A) (b : Bool) → (b ≡ true → t .clock .i ≤ n) → t .clock .i + 1 ≤ v .clock .i → (b ≡ true → Onward n (v .clock .i) (runs o p l m v)) → Onward n (t .clock .i) (cond b (more y (runs o p l m v)) (stopped t))
       go t v y true near on rest = let h = rest refl in let k = near refl in (omega arith, omega arith)
       go t v y false near on rest = (omega arith, omega arith)
 
@@ -66,7 +63,7 @@ module _ {A : Type 0} (o : Ops A) (s : Sync A) (xs : List A) (places : ℕ) (giv
   running : TrackRunning p (length xs) (s .track)
   running = running-more p (s .track .clock) (lacks p (s .track)) (length xs) given
 
-  onward : Onward o p l (length xs) (omega arith) (s .track .clock .i) (runs o p l places (s .track))
+  onward : Onward (length xs) (s .track .clock .i) (runs o p l places (s .track))
   onward = runs-onward o p l (length xs) (omega arith) places (s .track) running
 
   -- a run with more places than samples takes all

@@ -19,7 +19,7 @@ use Rattle.sample_calls.specs.Calls.{Call}
 use Rattle.sample_calls.proofs.Laws.Given.{called-given}
 use Rattle.sample_calls.proofs.Laws.Refused.{accepted-whole}
 use Rattle.blocks.specs.Instants.{later}
-use Rattle.blocks.specs.Receiver.{Waiting, start, handed, waitsAfter, Heard, heardOn, joined, unheard, recorded, heard, waits, left}
+use Rattle.blocks.specs.Receiver.{Waiting, start, handed, waitsAfter, Heard, heardOn, joined, recorded, heard, waits, left}
 use Rattle.blocks.proofs.Laws.Received.{received, received-instants, call-received, refused-unheard, refused-waits, unheard-first, received-joined, received-nothing}
 
 -- the places of all calls

@@ -4,7 +4,7 @@ use mathlib.Core.Bool.{Bool, true, false, not, _&&_, cond}
 use mathlib.Core.List.{List, _∷_, map}
 use Prim.Native.Nat.{ℕ, zero, suc, _+_, _-_, _≤_}
 use native.Mathlib.Omega.{arith}
-use lib.Dec.{T, ltb, ltb→lt, lt→ltb}
+use lib.Dec.{T, ltb→lt, lt→ltb}
 use lib.ListN.{length, drop, length-drop}
 use lib.Ieee.{Float}
 use lib.Ieee.Scale.{finite}
@@ -19,19 +19,14 @@ use Rattle.timing.specs.Sample.{Ops}
 use Rattle.timing.specs.Clock.{midway, midIndex, midPart, newInteg, newOmega, moved, advanced, settled, midLeft}
 use Rattle.timing.specs.Given.{Running}
 use Rattle.timing.specs.Loop.{Track, Strobes, lacks, there, valueAt, withMid, midTaken, decision, errorOf, strobed, ready, more, runs}
+use Rattle.timing.specs.Run.{TrackRunning}
 use Rattle.timing.proofs.Laws.Strobe.{advanced-i}
 use Rattle.timing.proofs.Laws.Clock.{settled-finite, kept, running-mid}
-use Rattle.timing.proofs.Laws.Loop.{TrackRunning, valueHere, midTaken-running, strobed-running}
+use Rattle.timing.proofs.Laws.Loop.{valueHere, midTaken-running, strobed-running}
 use Rattle.timing.proofs.Laws.Taken.{mid-by}
 use Rattle.blocks.specs.Instants.{clocks}
+use Rattle.blocks.specs.Runs.{clockOn, trackOn, strobesOn}
 use Rattle.blocks.proofs.Laws.Longer.{turn, turnClocks}
-
--- ---- k places on
-abbrev pub clockOn : ℕ → Clock → Clock
-clockOn k c = record { i = c .i + k; mu = c .mu; omega = c .omega; integ = c .integ }
-
-abbrev pub trackOn : {A : Type 0} → ℕ → Track A → Track A
-trackOn k s = record { clock = clockOn k (s .clock); yPrev = s .yPrev; dPrev = s .dPrev; mid = s .mid; midReady = s .midReady; started = s .started }
 
 -- ---- the clock: its place moves, and nothing else looks at it
 pub mid-on : (k : ℕ) {p : Params} {c : Clock} {b : Bool} {n : ℕ} → Running p c b n → T b → midIndex (clockOn k c) ≡ midIndex c + k
@@ -102,10 +97,7 @@ module _ {A : Type 0} (o : Ops A) (p : Params) (l : List A) (k n : ℕ) (long : 
   ready-on t = ap (λ (b : Bool). not (lacks p t) && b) (there-on (t .clock .i))
 
   -- ---- a run
-  abbrev strobesOn : Strobes A → Strobes A
-  strobesOn r = record { values = r .values; last = trackOn k (r .last) }
-
-  pub runs-on : (m : ℕ) (s : Track A) → TrackRunning p n s → (runs o p l m (trackOn k s) ≡ strobesOn (runs o p (drop k l) m s)) × (clocks o p l m (trackOn k s) ≡ map (clockOn k) (clocks o p (drop k l) m s))
+  pub runs-on : (m : ℕ) (s : Track A) → TrackRunning p n s → (runs o p l m (trackOn k s) ≡ strobesOn k (runs o p (drop k l) m s)) × (clocks o p l m (trackOn k s) ≡ map (clockOn k) (clocks o p (drop k l) m s))
   unfolding runs clocks
   runs-on zero s g = (refl, refl)
   runs-on (suc m) s g =
@@ -116,8 +108,8 @@ module _ {A : Type 0} (o : Ops A) (p : Params) (l : List A) (k n : ℕ) (long : 
       (ap (turn o p l m) taken ∙ r .0, ap (turnClocks o p l m) taken ∙ r .1)
     where
       turn-on : (t : Track A) → TrackRunning p n t → (b : Bool) → ready p (drop k l) t ≡ b → let v = strobed o p t (valueHere o (drop k l) t) in
-          (b ≡ true → (runs o p l m (trackOn k v) ≡ strobesOn (runs o p (drop k l) m v)) × (clocks o p l m (trackOn k v) ≡ map (clockOn k) (clocks o p (drop k l) m v)))
-          → (turn o p l m (trackOn k t) ≡ strobesOn (turn o p (drop k l) m t)) × (turnClocks o p l m (trackOn k t) ≡ map (clockOn k) (turnClocks o p (drop k l) m t))
+          (b ≡ true → (runs o p l m (trackOn k v) ≡ strobesOn k (runs o p (drop k l) m v)) × (clocks o p l m (trackOn k v) ≡ map (clockOn k) (clocks o p (drop k l) m v)))
+          → (turn o p l m (trackOn k t) ≡ strobesOn k (turn o p (drop k l) m t)) × (turnClocks o p l m (trackOn k t) ≡ map (clockOn k) (turnClocks o p (drop k l) m t))
       turn-on t f true e rest =
           let y = valueHere o (drop k l) t in
           let q = rest refl in

@@ -13,14 +13,15 @@ use Rattle.timing.specs.Sample.{Ops}
 use Rattle.timing.specs.Clock.{midIndex}
 use Rattle.timing.specs.Given.{Running}
 use Rattle.timing.specs.Loop.{Track, Strobes, lacks, runs, pending, consumed, trackBack}
-use Rattle.timing.specs.Run.{Hist, Sync, Given, line, histAt, Ran, ran}
+use Rattle.timing.specs.Run.{Hist, Sync, Given, line, histAt, Ran, ran, TrackRunning}
 use Rattle.timing.proofs.Laws.Clock.{running-pending, running-more}
-use Rattle.timing.proofs.Laws.Loop.{TrackRunning, runs-running}
+use Rattle.timing.proofs.Laws.Loop.{runs-running}
 use Rattle.timing.proofs.Laws.Run.{ran-given}
 use Rattle.blocks.specs.Instants.{clocks, instantOf, later, instants}
 use Rattle.blocks.specs.Timing.{goesOn, together}
 use Rattle.blocks.proofs.Laws.Longer.{runs-longer}
-use Rattle.blocks.proofs.Laws.Shifted.{clockOn, trackOn, mid-on, runs-on}
+use Rattle.blocks.specs.Runs.{clockOn, trackOn}
+use Rattle.blocks.proofs.Laws.Shifted.{mid-on, runs-on}
 use Rattle.blocks.proofs.Laws.Instants.{instants-on}
 
 -- ---- the history and what is left stand where they stood: the samples from k on

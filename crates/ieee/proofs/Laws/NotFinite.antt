@@ -9,6 +9,7 @@ use lib.IntN.{ℤ}
 use lib.Ieee.{Float, nan, inf, fin, Format, unlike, neg, add, sub, mul, div, le}
 use lib.Ieee.Scale.{finite}
 use Rattle.ieee.specs.Notation.{zero₀}
+use Rattle.ieee.specs.Bounds.{Reaches}
 use Rattle.ieee.proofs.Laws.Algebra.{add-swap, mul-swap, mul-negs, sub-is, neg-neg}
 use Rattle.ieee.proofs.Laws.Order.{cross→le, le-trans-float, neg-finite}
 use Rattle.ieee.proofs.Laws.Mono.{add-mono, sub-mono, mul-mono, mul-nonneg}
@@ -59,10 +60,6 @@ quotient-nan f (inf s) (fin t n d) p q = absurd (q tt)
 quotient-nan f (fin s m e) y p q = absurd (p tt)
 
 -- ---- lower bounds
--- x is at least c, if it is finite
-abbrev pub Reaches : Float → Float → Type 0
-Reaches c x = T (finite x) → T (le c x)
-
 pub sum-at-least : (f : Format) (c d x y : Float) → T (finite c) → T (finite d) → Reaches c x → Reaches d y → Reaches (add f c d) (add f x y)
 sum-at-least f c d x y C D a b h = let k = finite-sum f x y h in add-mono f c x d y C (k .0) D (k .1) (a (k .0)) (b (k .1))
 

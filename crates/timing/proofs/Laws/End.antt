@@ -10,9 +10,9 @@ use Rattle.timing.specs.Sample.{Ops}
 use Rattle.timing.specs.Clock.{midIndex}
 use Rattle.timing.specs.Given.{Running, GivenClock}
 use Rattle.timing.specs.Loop.{Track, lacks, runs, pending, consumed, trackBack}
-use Rattle.timing.specs.Run.{Hist, Sync, Given, line, histAt, ran, done}
+use Rattle.timing.specs.Run.{Hist, Sync, Given, line, histAt, ran, done, TrackRunning}
 use Rattle.timing.proofs.Laws.Clock.{running-pending, running-more}
-use Rattle.timing.proofs.Laws.Loop.{TrackRunning, runs-running}
+use Rattle.timing.proofs.Laws.Loop.{runs-running}
 use Rattle.timing.proofs.Laws.Shown.{Form, Ended}
 
 -- u is the track that the loop left, and `lacking` whether its middle is lacking

@@ -15,11 +15,8 @@ use Rattle.timing.specs.Sample.{Ops}
 use Rattle.timing.specs.Clock.{midIndex, midPart, lacking}
 use Rattle.timing.specs.Given.{Running, GivenStrobe}
 use Rattle.timing.specs.Loop.{Track, Strobes, lacks, there, valueAt, withMid, midTaken, strobed, ready, stopped, more, runs, pending}
+use Rattle.timing.specs.Run.{TrackRunning}
 use Rattle.timing.proofs.Laws.Clock.{settled-finite, running-advanced, running-ready}
-
--- what holds of a track while a run loops, with n samples of input
-abbrev pub TrackRunning : {A : Type 0} → Params → ℕ → Track A → Type 0
-TrackRunning p n s = Running p (s .clock) (lacks p s) n
 
 -- a middle that is held is not lacking
 pub held-not-lacking : (d : Ted) (started : Bool) → lacking d started true ≡ false

@@ -18,7 +18,8 @@ use Rattle.timing.specs.declared.params.Params.{Params}
 use Rattle.timing.specs.Sample.{Ops}
 use Rattle.timing.specs.Given.{GivenStrobe}
 use Rattle.timing.specs.Loop.{Track, Strobes, lacks, midTaken, strobed, ready, stopped, more, runs}
-use Rattle.timing.proofs.Laws.Loop.{TrackRunning, valueHere, runs-turn, runs-stop, runs-full, runs-count, ready-leb, ready-window, ready-strobe, midTaken-running, strobed-running}
+use Rattle.timing.specs.Run.{TrackRunning}
+use Rattle.timing.proofs.Laws.Loop.{valueHere, runs-turn, runs-stop, runs-full, runs-count, ready-leb, ready-window, ready-strobe, midTaken-running, strobed-running}
 
 -- how samples lie in a slice of f32: the floats of one, and the slice of many
 pub record Form (A : Type 0) : Type 0 where
