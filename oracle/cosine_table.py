@@ -186,9 +186,9 @@ cosBits =
 
 
 def as_list(patterns):
-    """The definition's file: the bit patterns as whole numbers, 16 a line."""
+    """The definition's file: the bit patterns in hexadecimal, 16 a line."""
     rows = [patterns[i : i + 16] for i in range(0, len(patterns), 16)]
-    return LIST_HEAD + "".join("    " + "".join(f"{b} ∷ " for b in row).rstrip() + "\n" for row in rows)[:-1] + " []\n"
+    return LIST_HEAD + "".join("    " + "".join(f"{b:#010x} ∷ " for b in row).rstrip() + "\n" for row in rows)[:-1] + " []\n"
 
 
 ARRAY_HEAD = """\

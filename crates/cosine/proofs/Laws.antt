@@ -1,5 +1,4 @@
 -- The laws of this crate's definitions.
-pub mod Along
 pub mod Rules
 pub mod System
 pub mod Doubling

@@ -8,6 +8,9 @@ const ENTRY: u32 = 0x10_0000;
 // 2^30: a quarter turn.
 const QUARTER: u32 = 0x4000_0000;
 
+// 2^3: the fraction's 20 bits stand at the top of the 23 of an f32, with three zeros behind them.
+const ZEROS: u32 = 0x8;
+
 // The bits of 1.0: what is put below them are the digits behind its leading one.
 const ONE_BITS: u32 = 0x3f80_0000;
 
@@ -26,7 +29,7 @@ pub fn interp_f32_pair(table: &[f32; 4097], p: u32) -> Pair
 {
     let idx = (p / ENTRY) as usize;
     let sidx = (std::num::wrapping_sub_u32(p, QUARTER) / ENTRY) as usize;
-    let f = f32::from_bits(p % ENTRY * 8 + ONE_BITS) - 1.0;
+    let f = f32::from_bits(p % ENTRY * ZEROS + ONE_BITS) - 1.0;
     let a = table[idx];
     let b = table[idx + 1];
     let sa = table[sidx];

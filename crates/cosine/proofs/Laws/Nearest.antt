@@ -18,7 +18,7 @@ use Rattle.cosine.specs.Bits.{cosBits}
 use Rattle.cosine.specs.Table.{cosList, cosAt}
 use Rattle.cosine.specs.Cosine.{Numbers, Cosine, AtLeast, AtMost}
 use Rattle.cosine.specs.Nearest.{middle, Nearest}
-use Rattle.cosine.proofs.Laws.Along.{counted, counted-at}
+use Rattle.lists.proofs.Laws.Along.{counted, counted-at}
 use Rattle.cosine.proofs.Laws.Rules.{length-cos, cos-rules}
 use Rattle.cosine.proofs.Laws.System.{Before, apart}
 use Rattle.cosine.proofs.Laws.Doubling.{shown, step, part, double, shown-sound}

@@ -21,7 +21,7 @@ use Rattle.ieee.proofs.Laws.Unique.{eq→alike}
 use Rattle.cosine.specs.Bits.{cosBits}
 use Rattle.cosine.specs.Table.{cosList, cosAt}
 use Rattle.cosine.specs.Rules.{doubled, Rules}
-use Rattle.cosine.proofs.Laws.Along.{each, each-at, along, along-at, thinned, getD-thinned, length-thinned, getD-reverse}
+use Rattle.lists.proofs.Laws.Along.{each, each-at, along, along-at, thinned, getD-thinned, length-thinned, getD-reverse}
 
 -- ---- the tests of one entry, or of two, and what each says
 abbrev entry : Float → Bool
