@@ -11,7 +11,7 @@ use Rattle.answers.specs.declared.line.Reading.{Reading}
 use Rattle.answers.specs.declared.line.Reading.the-variants.{Asks, Malformed}
 use Rattle.answers.specs.Hex.{wordOf}
 
--- the bytes of the word that starts at a place
+-- the word that starts at a place
 abbrev pub wordAt : List ℕ → ℕ → Word
 wordAt l i = wordOf (take 16 (drop i l))
 
@@ -19,7 +19,7 @@ wordAt l i = wordOf (take 16 (drop i l))
 abbrev pub spaced : ℕ → ℕ → ℕ → ℕ → Bool
 spaced a b c end = ((eqb a 32 && eqb b 32) && eqb c 32) && eqb end 10
 
--- 53 bytes
+-- 53 bytes, with the spaces and the line end in place
 abbrev pub formed : List ℕ → Bool
 formed l = eqb (length l) 53 && spaced (getD l 1 0) (getD l 18 0) (getD l 35 0) (getD l 52 0)
 

@@ -1,4 +1,5 @@
-// The lines of recorded answers: reading one, its words as floats, and comparing them with what was computed.
+// The lines of recorded answers: reading one, its words as floats, and comparing them with what was computed; and
+// comparing two slices.
 mod compare;
 mod hex;
 mod line;

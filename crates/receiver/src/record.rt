@@ -85,7 +85,8 @@ pub fn set_up(constellation: CostasConstellation, t: TimingValues, c: CarrierVal
     }
 }
 
-// A set-up that names no constellation takes BPSK, the source's default.
+// A set-up that names no constellation takes BPSK, the source's default. `TimingValues` and `CarrierValues` have the
+// ranges.
 pub fn set_up_unnamed(t: TimingValues, c: CarrierValues) -> SetUp
     ensures outcome { λ r. ⌜ r ≡ opened unnamed t c ⌝ }
     ensures given { λ r. ⌜ SetUpGiven r ⌝ }

@@ -1,6 +1,7 @@
 // Replays recorded answers of the receiver, which stand on standard input: set-ups, resets, phases that
 // are set and runs, each field of the record after them, and symbol numbers. Says how many lines were
-// played of each kind, and how many differ from what the crate `receiver` computes.
+// played of each kind, and how many differ from what `receiver`, `sample_calls` and `symbol_numbers`
+// compute.
 //
 // Beside the receiver of the lines a second one is played: it is set up, reset and run likewise, but each
 // of its samples is turned k quarter turns, and its phase is m quarter turns on. After each run the two

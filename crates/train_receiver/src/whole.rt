@@ -36,7 +36,7 @@ pub extern "C" fn trr_receiver_set_up(
     answer_of(receiver::set_up(plain::constellation(constellation), values_of(t), c))
 }
 
-// A set-up that names no constellation.
+// A set-up that names no constellation takes BPSK. The ranges stand at `TimingValues` and `CarrierValues`.
 #[no_mangle]
 pub extern "C" fn trr_receiver_set_up_unnamed(t: TimingValues, c: CarrierValues) -> ReceiverSetUp
     ensures outcome { λ z. ⌜ z ≡ setUpOf (opened unnamed (valuesOf t) c) ⌝ }
