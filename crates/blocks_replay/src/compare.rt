@@ -115,10 +115,10 @@ fn compare_received(r: Receiver, input: &[f32]) -> Tally
 }
 
 // A set-up that is refused receives nothing, and all its cuts differ.
-pub(crate) fn compare_cuts(s: SetUp, input: &[f32]) -> Tally
-    requires { ⌜ SetUpGiven s ⌝ }
+pub(crate) fn compare_cuts(answer: SetUp, input: &[f32]) -> Tally
+    requires { ⌜ SetUpGiven answer ⌝ }
 {
-    match s {
+    match answer {
         SetUp::Ready(r) => compare_received(r, input),
         SetUp::Refused(_) => Tally {
             consumed: 0,

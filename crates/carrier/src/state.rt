@@ -6,6 +6,7 @@ use constellations::CostasConstellation;
 use detectors::Lock;
 use values::Refusal;
 ghost use mathlib.Core.Path.{_≡_};
+ghost use Rattle.carrier.specs.Run.{replied};
 ghost use Rattle.carrier.specs.State.{paramsOf, fresh, opened, phaseSet, frequencyOf, frequencySet, Given, SetUpGiven};
 
 // Loop bandwidth, normalized to the symbol rate.
@@ -39,6 +40,18 @@ pub enum SetUp {
 pub enum Reply {
     Done,
     Refused(Refusal),
+}
+
+impl Reply {
+    // Document 01's number of the answer: 0 where the run is done.
+    pub fn number(self) -> u32
+        ensures { λ r. ⌜ r ≡ replied self ⌝ }
+    {
+        match self {
+            Reply::Done => 0,
+            Reply::Refused(n) => n.number(),
+        }
+    }
 }
 
 // The values of a set-up with the gains and the limit. The limit is flushed: below 1e-30 it would keep

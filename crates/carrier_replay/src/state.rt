@@ -3,7 +3,6 @@ use answers::HIGH;
 use answers::Operation;
 use answers::words_agree;
 use carrier::CostasState;
-use carrier::Reply;
 use carrier::SetUp;
 use replay_states::carrier_agrees;
 ghost use Rattle.carrier.specs.State.{Given, SetUpGiven};
@@ -43,14 +42,6 @@ fn set_up(s: CostasState, values: &[u64; 5], op: Operation, agrees: &mut bool) -
     opened(s, answer, op, agrees)
 }
 
-// The number that a run answers, 0 if it is not refused.
-fn number(answer: Reply) -> u64 {
-    match answer {
-        Reply::Done => 0,
-        Reply::Refused(r) => r.number() as u64,
-    }
-}
-
 // Runs on as much of the buffers as the line says, and not at all if they have less.
 fn run(
     s: CostasState,
@@ -72,7 +63,7 @@ fn run(
     }
     let ran = costas::run(s, &input[..n], &mut output[..places]);
     let answer = ran.answer;
-    *agrees = words_agree(op.x, 0, number(answer), op);
+    *agrees = words_agree(op.x, 0, answer.number() as u64, op);
     ran.state
 }
 

@@ -116,6 +116,21 @@ pub fn reset(s: SymbolSyncState) -> SymbolSyncState
 // ---- Readings
 
 impl SymbolSyncState {
+    // The current estimate of the samples per symbol.
+    pub fn sps_estimate(self) -> f64
+        ensures { λ r. ⌜ r ≡ self .track .clock .omega ⌝ }
+    {
+        self.track.clock.omega
+    }
+
+    // The position of the next strobe in input samples, counted from the first sample of the next
+    // call's input. It is negative while the strobe lies in the history.
+    pub fn next_strobe(self) -> f64
+        ensures { λ r. ⌜ r ≡ nextStrobe (self .track .clock) ⌝ }
+    {
+        timing::next_strobe(self.track.clock)
+    }
+
     // The nominal samples per symbol.
     pub fn sps(self) -> f64
         ensures { λ r. ⌜ r ≡ self .params .sps ⌝ }
@@ -157,20 +172,5 @@ impl SymbolSyncState {
         ensures { λ r. ⌜ r ≡ self .params .«ted_gain» ⌝ }
     {
         self.params.ted_gain
-    }
-
-    // The current estimate of the samples per symbol.
-    pub fn sps_estimate(self) -> f64
-        ensures { λ r. ⌜ r ≡ self .track .clock .omega ⌝ }
-    {
-        self.track.clock.omega
-    }
-
-    // The position of the next strobe in input samples, counted from the first sample of the next
-    // call's input. It is negative while the strobe lies in the history.
-    pub fn next_strobe(self) -> f64
-        ensures { λ r. ⌜ r ≡ nextStrobe (self .track .clock) ⌝ }
-    {
-        timing::next_strobe(self.track.clock)
     }
 }

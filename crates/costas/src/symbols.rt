@@ -76,11 +76,11 @@ pub fn carry(s: CostasState, input: &[f32], output: &mut [f32]) -> CostasState
 }
 
 // A refused call.
-fn refused(why: Refusal, s: CostasState) -> Ran
-    ensures { λ r. ⌜ r ≡ record { answer = Refused why; state = s } ⌝ }
+fn refused(n: Refusal, s: CostasState) -> Ran
+    ensures { λ r. ⌜ r ≡ record { answer = Refused n; state = s } ⌝ }
 {
     Ran {
-        answer: Reply::Refused(why),
+        answer: Reply::Refused(n),
         state: s,
     }
 }

@@ -47,10 +47,10 @@ pub fn constellation(code: u32) -> CostasConstellation
     }
 }
 
-pub fn constellation_code(c: CostasConstellation) -> u32
-    ensures { λ r. ⌜ r ≡ constellationCode c ⌝ }
+pub fn constellation_code(constellation: CostasConstellation) -> u32
+    ensures { λ r. ⌜ r ≡ constellationCode constellation ⌝ }
 {
-    match c {
+    match constellation {
         CostasConstellation::Bpsk => BPSK,
         CostasConstellation::Qpsk => QPSK,
         CostasConstellation::Psk8 => PSK8,

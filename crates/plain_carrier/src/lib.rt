@@ -5,14 +5,13 @@ use carrier::CostasState;
 use carrier::Lock;
 use carrier::Nco;
 use carrier::Params;
-use carrier::Reply;
 use carrier::SetUp;
 use carrier::Track;
 use plain::constellation;
 use plain::constellation_code;
 ghost use mathlib.Core.Path.{_≡_};
 ghost use Rattle.carrier.specs.State.{SetUpGiven};
-ghost use Rattle.carrier.specs.Run.{called, replied};
+ghost use Rattle.carrier.specs.Run.{called};
 ghost use Rattle.plain_carrier.specs.Carrier.{stateOf, recordOf, none, setUpOf, outcomeOf, Given};
 
 // The state as a plain record.
@@ -108,16 +107,6 @@ pub fn answer_of(answer: SetUp) -> CarrierSetUp
     }
 }
 
-// Document 01's number of what a call answers: 0 where it is done.
-fn number(answer: Reply) -> u32
-    ensures { λ r. ⌜ r ≡ replied answer ⌝ }
-{
-    match answer {
-        Reply::Done => 0,
-        Reply::Refused(n) => n.number(),
-    }
-}
-
 // The number of a call, and the record after it.
 pub struct CarrierRan {
     pub number: u32,
@@ -134,7 +123,7 @@ pub fn run(x: Carrier, input: &[f32], output: &mut [f32]) -> CarrierRan
     let answer = ran.answer;
     let s = ran.state;
     CarrierRan {
-        number: number(answer),
+        number: answer.number(),
         state: record_of(s),
     }
 }

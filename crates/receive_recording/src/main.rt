@@ -128,6 +128,6 @@ fn main() {
     );
     match answer {
         SetUp::Ready(r) => receive(r),
-        SetUp::Refused(why) => report::refused(why.number()),
+        SetUp::Refused(n) => report::refused(n.number()),
     }
 }

@@ -127,19 +127,19 @@ pub fn set_phase(r: Receiver, phase: u32) -> Receiver
 // ---- Readings
 
 impl Receiver {
+    // The pace: the current estimate of the samples per symbol.
+    pub fn sps_estimate(self) -> f64
+        ensures { λ r. ⌜ r ≡ self .timing .track .clock .omega ⌝ }
+    {
+        self.timing.sps_estimate()
+    }
+
     // The instant of the next strobe in input samples, counted from the first sample of the next
     // call's input. It is negative while the strobe lies in the history.
     pub fn next_strobe(self) -> f64
         ensures { λ r. ⌜ r ≡ nextStrobe (self .timing .track .clock) ⌝ }
     {
         self.timing.next_strobe()
-    }
-
-    // The pace: the current estimate of the samples per symbol.
-    pub fn sps_estimate(self) -> f64
-        ensures { λ r. ⌜ r ≡ self .timing .track .clock .omega ⌝ }
-    {
-        self.timing.sps_estimate()
     }
 
     // The carrier's frequency, in cycles per symbol.
@@ -149,11 +149,11 @@ impl Receiver {
         self.carrier.frequency()
     }
 
-    // The carrier's phase before the next symbol, in units of 2^-32 turn.
-    pub fn phase(self) -> u32
-        ensures { λ r. ⌜ r ≡ self .carrier .track .nco .phase ⌝ }
+    // Whether the lock detector reports lock.
+    pub fn locked(self) -> bool
+        ensures { λ r. ⌜ r ≡ self .carrier .track .lock .locked ⌝ }
     {
-        self.carrier.phase()
+        self.carrier.locked()
     }
 
     // The smoothed lock measure.
@@ -163,11 +163,11 @@ impl Receiver {
         self.carrier.lock_level()
     }
 
-    // Whether the lock detector reports lock.
-    pub fn locked(self) -> bool
-        ensures { λ r. ⌜ r ≡ self .carrier .track .lock .locked ⌝ }
+    // The carrier's phase before the next symbol, in units of 2^-32 turn.
+    pub fn phase(self) -> u32
+        ensures { λ r. ⌜ r ≡ self .carrier .track .nco .phase ⌝ }
     {
-        self.carrier.locked()
+        self.carrier.phase()
     }
 
     // The constellation.

@@ -56,11 +56,11 @@ fn accepted(r: Receiver, input: &[f32], strobes: &mut [f32], output: &mut [f32])
 }
 
 // A refused call.
-fn refused(why: Refusal, r: Receiver) -> Ran
-    ensures { λ z. ⌜ z ≡ record { answer = Refused why; receiver = r } ⌝ }
+fn refused(n: Refusal, r: Receiver) -> Ran
+    ensures { λ z. ⌜ z ≡ record { answer = Refused n; receiver = r } ⌝ }
 {
     Ran {
-        answer: Answer::Refused(why),
+        answer: Answer::Refused(n),
         receiver: r,
     }
 }

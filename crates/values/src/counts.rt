@@ -12,10 +12,10 @@ pub struct Counts {
 }
 
 // An answer as its number and counts.
-pub fn counts_of(a: Answer) -> Counts
-    ensures { λ r. ⌜ r ≡ countsOf a ⌝ }
+pub fn counts_of(answer: Answer) -> Counts
+    ensures { λ r. ⌜ r ≡ countsOf answer ⌝ }
 {
-    match a {
+    match answer {
         Answer::Done(p) => Counts {
             number: 0,
             consumed: p.consumed,

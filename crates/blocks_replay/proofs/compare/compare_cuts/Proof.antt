@@ -6,7 +6,7 @@ use Rattle.blocks_replay.proofs.compare.compare_cuts.Statement.{stateme
 use Rattle.blocks_replay.proofs.compare.compare_cuts.Tie as tie
 
 compare-received-requires : tie.Need-compare-received-requires
-compare-received-requires c κs = subst SetUpGiven (c .before .s .given .1) (c .before .before .before .before .pre)
+compare-received-requires c κs = subst SetUpGiven (c .before .answer .given .1) (c .before .before .before .before .pre)
 
 pub compare-cuts-spec : {M : Type 1} → statement M
 compare-cuts-spec =

@@ -15,4 +15,4 @@ pub run-spec : {M : Type 1} → statement M
 run-spec =
     tie.close
     (tie.spec (λ c. search needs) (λ c. search needs) input-part (search needs) output-part (λ c κs. search needs)
-    (search needs) (search needs) (search needs) (λ c. search needs))
+    (search needs) (search needs) (search needs) (search needs) (λ c. search needs))
