@@ -1,0 +1,217 @@
+#!/usr/bin/env python3
+"""Checks the pages against the repository.
+
+    python3 docs/check_pages.py
+
+Every label that is cited is one of SPECIFICATION.md, and every label of it has a row in PROMISES.md. Each row of
+PROMISES.md has at most 300 characters, and what it names is there: files, theorems, functions, must-fail edits. So are
+theorems and files in THEOREMS.md, the links of every page, and the paths that a page names. Prose is wrapped. No file
+but PROMISES.md speaks of the request's papers by their numbers. It prints what is wrong; the status is then 1.
+"""
+
+import re
+import subprocess
+import sys
+from pathlib import Path
+
+ROOT = Path(__file__).resolve().parent.parent
+LABEL = re.compile(r"\b([NAETCRQBXLPKFG])([1-9][0-9]?)\b")
+# Words that look like labels and are none.
+NO_LABELS = {"C32", "Q15", "C99"}
+COLUMNS = 121
+ROW = 300
+COMMENT = {".antt": "--", ".rt": "//", ".rs": "//", ".edit": "#", ".h": "*"}
+
+faults = []
+
+
+def fault(place, text):
+    """Notes one fault."""
+    faults.append(f"{place}: {text}")
+
+
+def files():
+    """Every file of the repository, as paths from its root."""
+    said = subprocess.run(["git", "ls-files", "-co", "--exclude-standard"], cwd=ROOT, capture_output=True, text=True,
+                          check=True)
+    return [name for name in said.stdout.split("\n") if name and (ROOT / name).is_file()]
+
+
+def text_of(name):
+    """A file's text."""
+    return (ROOT / name).read_text(encoding="utf-8", errors="replace")
+
+
+def cells(row):
+    """The cells of a table's row."""
+    return [cell.strip() for cell in row.strip().strip("|").split("|")]
+
+
+def specified():
+    """The labels that SPECIFICATION.md defines."""
+    return set(re.findall(r"\*\*([A-Z][0-9]+)\.?\*\*", text_of("docs/SPECIFICATION.md")))
+
+
+def spread(text):
+    """The labels of a cell: 'E1–E6, T3' has seven."""
+    found = set()
+    for first, last in re.findall(r"([A-Z][0-9]+)(?:(?:–| to )([A-Z][0-9]+))?", text):
+        if last:
+            found |= {f"{first[0]}{k}" for k in range(int(first[1:]), int(last[1:]) + 1)}
+        else:
+            found.add(first)
+    return found
+
+
+def path_of(short):
+    """The file that a short name stands for: timing/Laws/Run, timing/specs/Run, timing/src/setup."""
+    crate, room, *rest = short.split("/")
+    folder = ROOT / "crates" / crate
+    if room == "Laws":
+        return folder / "proofs" / "Laws" / ("/".join(rest) + ".antt")
+    if room == "src" and not rest:
+        return folder / "src"
+    ending = ".rt" if room == "src" else ".antt"
+    return folder / room / ("/".join(rest) + ending)
+
+
+def defines(path, name):
+    """Whether a file, or a folder of code, has this name as a word."""
+    paths = sorted(path.rglob("*.rt")) if path.is_dir() else [path]
+    word = re.compile(rf"(?<![\w«-]){re.escape(name)}(?![\w-])")
+    return any(word.search(one.read_text(encoding="utf-8")) for one in paths)
+
+
+def promised(known):
+    """The rows of PROMISES.md."""
+    rows, edits_named = set(), set()
+    for number, line in enumerate(text_of("docs/PROMISES.md").split("\n"), 1):
+        place = f"docs/PROMISES.md:{number}"
+        if len(line) > ROW:
+            fault(place, f"{len(line)} characters")
+        row = cells(line)
+        if line.startswith("|") and len(row) == 5 and row[0] not in ("Label", "---"):
+            rows |= spread(row[0])
+            named_in(place, row[1], row[2], row[3])
+            edits_named |= edits_of(place, row[3])
+    for label in sorted(known - rows):
+        fault("docs/PROMISES.md", f"no row for {label}")
+    for label in sorted(rows - known):
+        fault("docs/PROMISES.md", f"{label} is no label")
+    for edit in sorted(all_edits() - edits_named):
+        fault("docs/PROMISES.md", f"the edit {edit} is in no row")
+
+
+def named_in(place, what, where, edits):
+    """The names of a row stand in its files, or in the code of the crates that it names."""
+    paths = [path_of(short) for short in re.findall(r"`([\w/]+)`", where) if "/" in short]
+    for path in paths:
+        if not path.exists():
+            fault(place, f"no file {path.relative_to(ROOT)}")
+    crates = {path.relative_to(ROOT).parts[1] for path in paths} | set(re.findall(r"(\w+):", edits))
+    crates |= set(re.findall(r"`(\w+)::", what))
+    code = [ROOT / "crates" / crate for crate in crates]
+    for name in re.findall(r"`([^`]+)`", what):
+        word = name.split("::")[-1].split(" ")[0].replace("&mut", "")
+        if not word or "/" in name or (ROOT / "crates" / word).is_dir() or (ROOT / word).is_dir():
+            continue
+        there = [path for path in paths if path.exists() and defines(path, word)]
+        in_code = [folder for folder in code for one in folder.rglob("*")
+                   if one.suffix in (".rt", ".antt") and "must-fail" not in one.parts and defines(one, word)]
+        if paths and not there and not in_code:
+            fault(place, f"`{name}` is not in {where}")
+
+
+def edits_of(place, text):
+    """The edits that a cell names, as crate/edit; each must be there."""
+    found = set()
+    for crates, names in re.findall(r"([\w, ]+?): ((?:`\w+`(?:, )?)+)", text):
+        for crate in re.split(r", | and ", crates.strip()):
+            for name in re.findall(r"`(\w+)`", names):
+                found.add(f"{crate.strip()}/{name}")
+    for edit in sorted(found - all_edits()):
+        fault(place, f"no edit {edit}")
+    return found
+
+
+def all_edits():
+    """Every must-fail edit, as crate/edit."""
+    return {f"{path.parent.parent.name}/{path.stem}" for path in (ROOT / "crates").glob("*/must-fail/*.edit")}
+
+
+def cited(known):
+    """Labels in comments and pages."""
+    for name in files():
+        path = Path(name)
+        mark = COMMENT.get(path.suffix)
+        if path.suffix != ".md" and mark is None:
+            continue
+        for number, line in enumerate(text_of(name).split("\n"), 1):
+            if mark and not line.lstrip().startswith(mark) and f" {mark} " not in line:
+                continue
+            words = line[line.find(mark):] if mark else re.sub(r"`[^`]*`", "", line)
+            for letter, count in LABEL.findall(words):
+                label = letter + count
+                if label not in known and label not in NO_LABELS and f"{label}_" not in words:
+                    fault(f"{name}:{number}", f"{label} is no label")
+
+
+def theorems():
+    """THEOREMS.md: each heading's file has the theorem, and the statement stands in it, blanks aside."""
+    text = text_of("docs/THEOREMS.md")
+    for heading, name, short, rest in re.findall(r"^## (\d+\. `([^`]+)`), `([\w/]+)`\n(.*?)(?=^## |\Z)", text, re.M | re.S):
+        path = path_of(short)
+        if not path.exists():
+            fault("docs/THEOREMS.md", f"{heading}: no file {short}")
+            continue
+        source = re.sub(r"\s+", " ", path.read_text(encoding="utf-8"))
+        for block in re.findall(r"```\n(.*?)```", rest, re.S):
+            if re.sub(r"\s+", " ", block).strip() not in source:
+                fault("docs/THEOREMS.md", f"{heading}: the statement is not in {short}")
+
+
+def pages():
+    """Links, paths and columns of every page."""
+    for name in files():
+        if not name.endswith(".md"):
+            continue
+        fenced = False
+        for number, line in enumerate(text_of(name).split("\n"), 1):
+            place = f"{name}:{number}"
+            fenced ^= line.lstrip().startswith("```")
+            if len(line) > COLUMNS and not fenced and not line.lstrip().startswith("|") and not line.startswith("    "):
+                fault(place, f"{len(line)} columns")
+            for link in re.findall(r"\]\(([^)#]+?)(?:#[^)]*)?\)", line):
+                if "://" not in link and not ((ROOT / name).parent / link).exists():
+                    fault(place, f"the link {link} leads nowhere")
+            for path in re.findall(r"`((?:crates|docs|oracle|bindings)/[\w./-]*\w)`", line):
+                if not (ROOT / path).exists() and not path.startswith("crates/crate"):
+                    fault(place, f"no {path}")
+
+
+def papers():
+    """No file but PROMISES.md names the request's papers."""
+    said = re.compile(r"document 0[0-9]|document 000", re.I)
+    for name in files():
+        if name in ("docs/PROMISES.md", "docs/check_pages.py") or name.startswith(".git"):
+            continue
+        for number, line in enumerate(text_of(name).split("\n"), 1):
+            if said.search(line):
+                fault(f"{name}:{number}", "speaks of the request's papers")
+
+
+def main():
+    known = specified()
+    promised(known)
+    cited(known)
+    theorems()
+    pages()
+    papers()
+    for one in faults:
+        print(one)
+    print(f"{len(known)} labels, {len(all_edits())} edits, {len(faults)} faults")
+    return 1 if faults else 0
+
+
+if __name__ == "__main__":
+    sys.exit(main())
