@@ -7,7 +7,7 @@ EARLIER is the root of another checkout of this repository. In both checkouts `r
 train_receiver` must have been run. The benchmark of this one is built with each library (and that
 checkout's bindings/rust) and run TURNS times, in the order earlier, later, later, earlier, and so
 on, so that a slow drift of the machine's pace meets both alike. Nothing else should run beside it.
-For each row of the table it prints by how many per cent the later one is behind (a minus: ahead):
+For each row of the first table it prints by how many per cent the later one is behind (a minus: ahead):
 
     fastest   the fastest run of the ported library, later against earlier. This one decides.
     median    the median run of it
@@ -46,7 +46,8 @@ def built(root, folder):
 
 
 def measured(program):
-    """One run: for each row and block length the original's time and the ported one's."""
+    """One run: for each row and block length the original's time and the ported one's. The rows of the first
+    table are those of ten cells."""
     said = subprocess.run([program, "speed", "--fine"], capture_output=True, text=True, check=True).stdout
     times = {}
     for line in said.splitlines():

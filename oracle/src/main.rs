@@ -50,9 +50,9 @@ usage: oracle play [--reference] SCRIPT   plays a script ('-' reads standard inp
        oracle record FOLDER               writes all recorded answers, FOLDER/NAME/stdin each
        oracle scale [--seed S] [--seconds N | --symbols N | --session K]
                                           compares the ported loops with the original's (feature 'ported')
-       oracle speed [--fine | --readme FILE]
+       oracle speed [--fine | --into FILE]
                                           times the ported loops (feature 'ported'), with more decimals
-                                          (--fine); the table goes into FILE too, between its two lines for it";
+                                          (--fine); writes the tables into FILE too, between its two lines";
 
 /// Makes the text of one file of recorded answers.
 type Make = fn() -> String;
@@ -96,7 +96,7 @@ fn main() -> ExitCode {
         #[cfg(feature = "ported")]
         ["speed", "--fine"] => tell(&speed::speed(speed::FINE)),
         #[cfg(feature = "ported")]
-        ["speed", "--readme", file] => {
+        ["speed", "--into", file] => {
             speed::speed_into(Path::new(file)).and_then(|report| tell(&report))
         }
         _ => Err(USAGE.to_string()),

@@ -14,6 +14,9 @@ const SIZES: [f64; 12] = [
     1.0, 1.0, 1.0, 0.7, 30.0, 1e-12, 6e-12, 1e-20, 4e-23, 1e12, 1e19, 1e38,
 ];
 
+/// The noise of an ordinary signal.
+pub const NOISE: f64 = 0.1;
+
 /// A signal that goes on from sample to sample.
 pub struct Signal {
     /// Points on the circle; 0 is silence.
@@ -24,6 +27,8 @@ pub struct Signal {
     gone: f64,
     from: (f64, f64),
     to: (f64, f64),
+    /// Whether a symbol stays as it is until the next one.
+    held: bool,
     /// The carrier, in turns, and what it grows by at each sample.
     turn: f64,
     turn_step: f64,
@@ -44,6 +49,7 @@ impl Signal {
             gone: random.unit(),
             from: (1.0, 0.0),
             to: (1.0, 0.0),
+            held: false,
             turn: random.pick(&[0.0, 0.125, 0.25, turn]),
             turn_step: random.pick(&[0.0, 0.0, 0.01, turn_step]),
             size: random.pick(&SIZES),
@@ -60,10 +66,11 @@ impl Signal {
             gone: 0.0,
             from: (1.0, 0.0),
             to: (1.0, 0.0),
+            held: false,
             turn: 0.0,
             turn_step: 0.0,
             size: 1.0,
-            noise: 0.1,
+            noise: NOISE,
             odd: 0.0,
         }
     }
@@ -75,6 +82,18 @@ impl Signal {
             turn_step,
             ..self
         }
+    }
+
+    /// The same with this noise.
+    #[cfg(feature = "ported")]
+    pub fn noisy(self, noise: f64) -> Self {
+        Self { noise, ..self }
+    }
+
+    /// The same, but each symbol stays as it is until the next one.
+    #[cfg(feature = "ported")]
+    pub fn held(self) -> Self {
+        Self { held: true, ..self }
     }
 
     /// The next sample.
@@ -109,10 +128,11 @@ impl Signal {
     }
 
     /// The next symbol: a point at an odd multiple of half the points' angle, so that four
-    /// points stand on the diagonals; two points stand on the axis.
+    /// points stand on the diagonals; one point or two stand on the axis.
     fn symbol(&self, random: &mut Random) -> (f64, f64) {
         match self.points {
             0 => (0.0, 0.0),
+            1 => (1.0, 0.0),
             2 => (random.pick(&[1.0, -1.0]), 0.0),
             points => {
                 let point = random.up_to(points - 1) as f64 + 0.5;
@@ -124,7 +144,8 @@ impl Signal {
 
     /// The value between the last symbol and the next one, turned by the carrier.
     fn on_carrier(&mut self) -> (f64, f64) {
-        let s = self.gone * self.gone * (3.0 - 2.0 * self.gone);
+        let gone = if self.held { 0.0 } else { self.gone };
+        let s = gone * gone * (3.0 - 2.0 * gone);
         let re = self.from.0 + (self.to.0 - self.from.0) * s;
         let im = self.from.1 + (self.to.1 - self.from.1) * s;
         self.turn = (self.turn + self.turn_step).fract();

@@ -1,4 +1,4 @@
-//! The carrier loop, under each constellation.
+//! The carrier loop, under each constellation, and under 8-PSK on signals whose octants are foretold.
 
 use std::f64::consts::FRAC_1_SQRT_2;
 use std::hint::black_box;
@@ -6,14 +6,15 @@ use std::rc::Rc;
 
 use train_receiver::ffi::{self, Progress};
 
-use super::drive::{Loop, round};
-use super::recording;
-use super::table::Table;
+use super::drive::{Loop, empty_round, round};
+use super::signals::Source;
+use super::table::Tables;
 use crate::Fallback;
-use crate::carrier_runs::{Values, signal_of};
+use crate::carrier_runs::Values;
 use crate::fields::state_line;
 use crate::kernels::costas::{Costas, CostasConstellation, CostasState};
 use crate::scale::records;
+use crate::signal::NOISE;
 use crate::types::C32;
 
 /// The signal's carrier: the turns that it begins at, and what it grows by at each symbol.
@@ -25,6 +26,39 @@ pub const CONSTELLATIONS: [(CostasConstellation, &str); 3] = [
     (CostasConstellation::Psk8, "8-PSK"),
 ];
 
+/// The symbols that a point of the slow signal is held for. With more the original is hardly quicker.
+const HELD: usize = 64;
+/// Signals on which the original's branches under 8-PSK are foretold.
+const FORETOLD: [Source; 2] = [
+    Source {
+        rows: "carrier, 8-PSK, unmodulated",
+        noise: 0.0,
+        ..random(1)
+    },
+    Source {
+        rows: "carrier, 8-PSK, slow QPSK",
+        held: HELD,
+        ..random(4)
+    },
+];
+
+/// A noisy signal of random points on the carrier, one a sample.
+const fn random(points: usize) -> Source {
+    Source {
+        rows: "carrier",
+        points,
+        pace: 1.0,
+        held: 1,
+        noise: NOISE,
+        carrier: Some(CARRIER),
+    }
+}
+
+/// The points of a constellation.
+pub fn order(points: CostasConstellation) -> usize {
+    points.psk_order().expect("a constellation on the circle") as usize
+}
+
 /// The values of the set-up.
 pub fn values(points: CostasConstellation) -> Values {
     black_box(Values {
@@ -33,6 +67,15 @@ pub fn values(points: CostasConstellation) -> Values {
         damping: FRAC_1_SQRT_2,
         offset: 0.05,
     })
+}
+
+/// The same in words.
+pub fn told() -> String {
+    let values = values(CostasConstellation::Qpsk);
+    format!(
+        "loop bandwidth {}, damping {:.4}, maximum offset {}",
+        values.bandwidth, values.damping, values.offset
+    )
 }
 
 /// The original's state after the set-up.
@@ -89,15 +132,30 @@ fn ported(points: CostasConstellation) -> ffi::Carrier {
     made.state
 }
 
-/// Each constellation: a noisy signal of it on a carrier.
-pub fn rows(table: &mut Table) {
-    let [turn, turn_step] = CARRIER;
+/// Each constellation on random symbols of it, then 8-PSK on the other signals.
+pub fn rows(tables: &mut Tables) {
     for (points, name) in CONSTELLATIONS {
-        let signal = signal_of(points).carried(turn, turn_step);
-        let samples: Rc<[C32]> = recording(signal, table.samples).into();
-        table.row(format!("carrier, {name}"), |block| {
-            let input = Rc::clone(&samples);
-            Box::new(move || round(&input, block, original(points), ported(points)))
-        });
+        let source = random(order(points));
+        row(tables, format!("carrier, {name}"), points, source);
     }
+    for source in FORETOLD {
+        let name = source.rows.to_string();
+        row(tables, name, CostasConstellation::Psk8, source);
+    }
+}
+
+/// A constellation on a signal.
+fn row(tables: &mut Tables, name: String, points: CostasConstellation, source: Source) {
+    let samples: Rc<[C32]> = source.recording(tables.samples);
+    tables.row(name, source, |block| {
+        let input = Rc::clone(&samples);
+        Box::new(move || round(&input, block, original(points), ported(points)))
+    });
+}
+
+/// Empty calls, under the second constellation.
+pub fn calls(tables: &mut Tables) {
+    let [_, (points, name), _] = CONSTELLATIONS;
+    let run = move || empty_round(original(points), ported(points));
+    tables.call(format!("carrier, {name}"), Box::new(run));
 }

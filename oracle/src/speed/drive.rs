@@ -1,11 +1,15 @@
-//! The driver, one for both implementations: a recording goes to a loop in blocks, and the loop's state
-//! is carried on from call to call.
+//! The driver, one for both implementations: a recording goes to a loop in blocks, or the loop gets empty
+//! calls, and its state is carried on from call to call.
 
+use std::hint::black_box;
 use std::time::{Duration, Instant};
 
 use train_receiver::ffi::Progress;
 
 use crate::bits::{Parts, fresh_output};
+
+/// The calls of a run of empty calls.
+pub const EMPTY_CALLS: usize = 20_000;
 
 /// One implementation of a loop, with its state.
 pub trait Loop {
@@ -28,7 +32,7 @@ struct Outcome {
 
 /// One run of each implementation.
 pub struct Round {
-    /// The nanoseconds for each symbol, the original's first.
+    /// The nanoseconds for each symbol, or for each empty call, the original's first.
     pub ns: [f64; 2],
     /// Whether calls, outputs and states came out the same.
     pub same: bool,
@@ -83,4 +87,29 @@ fn drive<L: Loop>(
         written += progress.produced;
         calls.push(progress);
     }
+}
+
+/// Runs two loops that are just set up on empty calls: they are lent no samples and no places.
+pub fn empty_round<O: Loop, P: Loop<Sample = O::Sample>>(original: O, ported: P) -> Round {
+    let (first, one) = empty_run(original);
+    let (second, other) = empty_run(ported);
+    Round {
+        ns: [first, second].map(|time| time.as_nanos() as f64 / EMPTY_CALLS as f64),
+        same: one == other,
+    }
+}
+
+/// The time of all empty calls; the sums of their counts, and the state after them. Each call is lent the
+/// state anew, and nothing is known of what it is lent, so that none can be left out.
+fn empty_run<L: Loop>(mut subject: L) -> (Duration, ([usize; 2], String)) {
+    let mut sums = [0, 0];
+    let start = Instant::now();
+    for _ in 0..EMPTY_CALLS {
+        let lent = black_box(&mut subject);
+        let progress = lent.call(black_box(&[]), black_box(&mut []));
+        sums[0] += progress.consumed;
+        sums[1] += progress.produced;
+    }
+    let time = start.elapsed();
+    (time, (sums, subject.state()))
 }

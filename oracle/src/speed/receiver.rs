@@ -5,9 +5,10 @@ use std::rc::Rc;
 
 use train_receiver::ffi::{self, Progress};
 
-use super::drive::{Loop, round};
-use super::table::Table;
-use super::{carrier, recording, timing};
+use super::drive::{Loop, empty_round, round};
+use super::signals::Source;
+use super::table::Tables;
+use super::{carrier, timing};
 use crate::Fallback;
 use crate::bits::fresh_output;
 use crate::fields::state_line;
@@ -15,7 +16,7 @@ use crate::kernels::costas::{Costas, CostasConstellation, CostasState};
 use crate::kernels::symbol_sync::{SymbolSync, SymbolSyncState, Ted};
 use crate::receiver_runs::receiver::Receiver;
 use crate::scale::records;
-use crate::signal::Signal;
+use crate::signal::NOISE;
 use crate::types::C32;
 
 /// A receiver and its strobe buffer, which is there before the clock starts.
@@ -104,16 +105,14 @@ fn ported(ted: Ted, points: CostasConstellation) -> ffi::Receiver {
 }
 
 /// Both detectors under each constellation: a noisy signal of it at the pace of the set-up, on a carrier.
-pub fn rows(table: &mut Table) {
-    let samples = table.samples;
-    let [turn, turn_step] = carrier::CARRIER;
+pub fn rows(tables: &mut Tables) {
+    let samples = tables.samples;
     for (points, points_name) in carrier::CONSTELLATIONS {
-        let order = points.psk_order().expect("a constellation on the circle");
-        let signal = Signal::ordinary(order as usize, timing::PACE);
-        let signal = signal.carried(turn, turn_step / timing::PACE);
-        let recorded: Rc<[C32]> = recording(signal, samples).into();
+        let source = source(points);
+        let recorded: Rc<[C32]> = source.recording(samples);
         for (ted, ted_name) in timing::DETECTORS {
-            table.row(format!("receiver, {ted_name}, {points_name}"), |block| {
+            let name = format!("receiver, {ted_name}, {points_name}");
+            tables.row(name, source, |block| {
                 let input = Rc::clone(&recorded);
                 Box::new(move || {
                     let original = buffered(original(ted, points), samples);
@@ -123,6 +122,31 @@ pub fn rows(table: &mut Table) {
             });
         }
     }
+}
+
+/// The signal under a constellation.
+fn source(points: CostasConstellation) -> Source {
+    Source {
+        rows: "receiver",
+        points: carrier::order(points),
+        pace: timing::PACE,
+        held: 1,
+        noise: NOISE,
+        carrier: Some(carrier::CARRIER),
+    }
+}
+
+/// Empty calls, with the first detector and the second constellation.
+pub fn calls(tables: &mut Tables) {
+    let [(ted, ted_name), _] = timing::DETECTORS;
+    let [_, (points, points_name), _] = carrier::CONSTELLATIONS;
+    let run = move || {
+        let original = buffered(original(ted, points), 0);
+        let ported = buffered(ported(ted, points), 0);
+        empty_round(original, ported)
+    };
+    let name = format!("receiver, {ted_name}, {points_name}");
+    tables.call(name, Box::new(run));
 }
 
 fn buffered<R>(receiver: R, places: usize) -> Buffered<R> {

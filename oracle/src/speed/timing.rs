@@ -6,16 +6,16 @@ use std::rc::Rc;
 
 use train_receiver::ffi::{self, Progress};
 
-use super::drive::{Loop, round};
-use super::recording;
-use super::table::Table;
+use super::drive::{Loop, empty_round, round};
+use super::signals::Source;
+use super::table::Tables;
 use crate::Fallback;
 use crate::bits::Parts;
 use crate::fields::state_line;
 use crate::kernels::symbol_sync::{SymbolSync, SymbolSyncState, Ted};
 use crate::runs::Values;
 use crate::scale::records;
-use crate::signal::Signal;
+use crate::signal::NOISE;
 use crate::timing;
 use crate::types::C32;
 
@@ -27,6 +27,22 @@ pub const DETECTORS: [(Ted, &str); 2] = [
     (Ted::MuellerMuller, "Mueller-Müller"),
 ];
 
+/// The complex signal: a noisy one at the pace of the set-up.
+const COMPLEX: Source = Source {
+    rows: "complex timing",
+    points: 4,
+    pace: PACE,
+    held: 1,
+    noise: NOISE,
+    carrier: None,
+};
+/// The real signal: its points stand on the axis.
+const REAL: Source = Source {
+    rows: "real timing",
+    points: 2,
+    ..COMPLEX
+};
+
 /// The values of the set-up.
 pub fn values(detector: Ted) -> Values {
     black_box(Values {
@@ -37,6 +53,15 @@ pub fn values(detector: Ted) -> Values {
         deviation: 0.005,
         gain: 1.0,
     })
+}
+
+/// The same in words.
+pub fn told() -> String {
+    let values = values(Ted::Gardner);
+    format!(
+        "{} samples per symbol, loop bandwidth {}, damping {:.4}, maximum deviation {}, detector gain {}",
+        values.sps, values.bandwidth, values.damping, values.deviation, values.gain
+    )
 }
 
 /// The original's state after the set-up.
@@ -124,20 +149,29 @@ fn complex(detector: Ted) -> ffi::Timing<ffi::C32> {
     made(unsafe { ffi::trr_complex_set_up(values) })
 }
 
-/// Both kinds of samples, with both detectors: a noisy signal at the pace of the set-up.
-pub fn rows(table: &mut Table) {
-    let singles: Rc<[f32]> = recording(Signal::ordinary(2, PACE), table.samples).into();
-    let pairs: Rc<[C32]> = recording(Signal::ordinary(4, PACE), table.samples).into();
+/// Both kinds of samples, with both detectors.
+pub fn rows(tables: &mut Tables) {
+    let singles: Rc<[f32]> = REAL.recording(tables.samples);
+    let pairs: Rc<[C32]> = COMPLEX.recording(tables.samples);
     for (ted, name) in DETECTORS {
-        table.row(format!("real timing, {name}"), |block| {
+        tables.row(format!("real timing, {name}"), REAL, |block| {
             let input = Rc::clone(&singles);
             Box::new(move || round(&input, block, original(ted), real(ted)))
         });
     }
     for (ted, name) in DETECTORS {
-        table.row(format!("complex timing, {name}"), |block| {
+        tables.row(format!("complex timing, {name}"), COMPLEX, |block| {
             let input = Rc::clone(&pairs);
             Box::new(move || round(&input, block, original(ted), complex(ted)))
         });
     }
+}
+
+/// Empty calls of both kinds, with the first detector.
+pub fn calls(tables: &mut Tables) {
+    let [(ted, name), _] = DETECTORS;
+    let pairs = move || empty_round(original(ted), complex(ted));
+    let singles = move || empty_round(original(ted), real(ted));
+    tables.call(format!("complex timing, {name}"), Box::new(pairs));
+    tables.call(format!("real timing, {name}"), Box::new(singles));
 }

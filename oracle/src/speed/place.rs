@@ -1,6 +1,6 @@
-//! The table's place in a file.
+//! The tables' place in a file.
 
-/// The lines that the table stands between.
+/// The lines that the tables stand between.
 const BEGIN: &str = "<!-- speed: begin -->\n";
 const END: &str = "<!-- speed: end -->\n";
 
@@ -40,7 +40,7 @@ mod tests {
     use super::*;
 
     #[test]
-    fn the_table_goes_between_the_lines() {
+    fn the_tables_go_between_the_lines() {
         let old = format!("one\n{BEGIN}old\nold\n{END}two\n");
         let new = format!("one\n{BEGIN}new\n{END}two\n");
         let replaced = Frame::of(&old).map(|frame| frame.around("new\n"));
