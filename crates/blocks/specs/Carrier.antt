@@ -3,6 +3,7 @@ use mathlib.Core.List.{_++_}
 use Rattle.carrier.specs.Step.{Symbols}
 use Rattle.carrier.specs.Run.{Outcome}
 
+-- B2: two runs as one, and below two calls
 abbrev pub symbolsTogether : Symbols → Symbols → Symbols
 symbolsTogether q r = record { values = q .values ++ r .values; last = r .last }
 

@@ -18,12 +18,12 @@ clocks o p l (suc n) t =
     let y = valueAt o l (u .clock .i) (u .clock .mu) in
     cond (ready p l u) (u .clock ∷ clocks o p l n (strobed o p u y)) []
 
--- a sample, and the fraction of a sample after it; neither is rounded
+-- B6: a sample, and the fraction of a sample after it; neither is rounded
 pub record Instant : Type 0 where
   pub sample : ℤ
   pub part : Float
 
--- "The next strobe is reported as (i - 3) + mu"
+-- B6: the instant of the strobe at a clock, counted as in T21
 abbrev pub instantOf : Clock → Instant
 instantOf c = record { sample = pos (c .i) -ℤ pos 3; part = c .mu }
 

@@ -1,4 +1,5 @@
--- A recording cut into sample calls, each handed what the last one left unconsumed and then its own block: what the calls give together. Definitions only.
+-- A recording cut into sample calls, each handed what the last one left unconsumed and then its own block (B3):
+-- what the calls give together. Definitions only.
 use mathlib.Core.Path.{_≡_}
 use Prim.Native.Nat.{ℕ, suc, _+_, _*_, _/_, _≤_, _<_}
 use mathlib.Core.Bool.{true, cond}
@@ -36,7 +37,8 @@ abbrev pub waitsAfter : Waiting → Call → Waiting
 waitsAfter w c = let o = callOn w c in record { receiver = o .receiver; rest = drop (2 * o .consumed) (handed w c) }
 
 -- ---- what is heard
--- the strobes and the outputs, one after the other; the instants of the symbols, counted from the first sample; the two counts; and the record after it, with its symbol count
+-- B3: the strobes and the outputs, one after the other; the instants of the symbols, counted from the first sample;
+-- the two counts; and the record after it, with its symbol count
 pub record Heard : Type 0 where
   pub strobes : List C32
   pub outputs : List C32
@@ -73,7 +75,7 @@ unfoldable pub recorded : List Call → List Float
 recorded [] = []
 recorded (c ∷ cs) = c .input ++ recorded cs
 
--- what the calls give together
+-- B3: what the calls give together
 unfoldable pub heard : Waiting → List Call → Heard
 heard w [] = unheard (w .receiver)
 heard w (c ∷ cs) = joined (heardOn w c) (heard (waitsAfter w c) cs)
@@ -92,20 +94,20 @@ unfoldable pub TakesAll : Waiting → List Call → Type 0
 TakesAll w [] = T true
 TakesAll w (c ∷ cs) = (2 * callOn w c .consumed ≡ length (handed w c)) × TakesAll (waitsAfter w c) cs
 
--- by their lengths alone: each call's buffers fit, and have more places than its block has samples
+-- B4: by their lengths alone: each call's buffers fit, and have more places than its block has samples
 unfoldable pub Roomy : List Call → Type 0
 Roomy [] = T true
 Roomy (c ∷ cs) = (whole c ≡ true) × ((length (c .input) / 2 < length (c .strobes) / 2) × Roomy cs)
 
--- what is left is handed again, n times, with places in buffers as long as zs and ys
+-- B5: what is left is handed again, n times, with places in buffers as long as zs and ys
 abbrev pub again : ℕ → List Float → List Float → List Call
 again n zs ys = replicate n (record { input = []; strobes = zs; output = ys })
 
--- as often as the recording has samples, and once more
+-- B5: as often as the recording has samples, and once more
 abbrev pub oftenEnough : List Call → ℕ
 oftenEnough cs = suc (length (recorded cs) / 2)
 
--- the buffers fit, and have a place
+-- B5: the buffers fit, and have a place
 pub record APlace (zs ys : List Float) : Type 0 where
   pub fits : accepts [] zs ys ≡ true
   pub place : 1 ≤ length zs / 2

@@ -1,4 +1,5 @@
--- What is said of a run's strobes beside those of another run: that it goes on after them, that it starts some places on, how far it gets. Definitions only.
+-- What is said of a run's strobes beside those of another run: that it goes on after them, that it starts some places
+-- on, how far it gets. Definitions only.
 use mathlib.Core.Path.{_≡_}
 use Prim.Native.Nat.{ℕ, _+_, _-_, _≤_}
 use mathlib.Core.List.{List, _++_}
@@ -9,7 +10,8 @@ use Rattle.timing.specs.Sample.{Ops}
 use Rattle.timing.specs.Loop.{Track, Strobes, runs}
 use Rattle.blocks.specs.Instants.{clocks}
 
--- on the samples l, with n places in all: the strobes r and their clocks go on after the strobes q, whose clocks are cs
+-- on the samples l, with n places in all: the strobes r and their clocks go on after
+-- the strobes q, whose clocks are cs
 abbrev pub Continues : {A : Type 0} → Ops A → Params → List A → ℕ → Strobes A → List Clock → Strobes A → List Clock → Type 0
 Continues o p l n q cs r ds =
     let k = n - length (q .values) in

@@ -1,4 +1,5 @@
--- Two timing calls in a row on a recording that is cut in two: what they give together. The second is handed what the first did not consume and then its own block, and the places that the first left. Definitions only.
+-- Two timing calls in a row on a recording that is cut in two: what they give together. The second is handed what
+-- the first did not consume and then its own block, and the places that the first left. Definitions only.
 use Prim.Native.Nat.{ℕ, _+_, _-_, _*_}
 use mathlib.Core.List.{List, _++_}
 use lib.ListN.{length, take, drop}
@@ -8,15 +9,15 @@ use Rattle.timing.specs.Sample.{Ops}
 use Rattle.timing.specs.Run.{Ran, ran, Outcome, calledReal, calledComplex}
 
 -- ---- two runs
--- the run that goes on after q, which ran on xs, where there are `places` in all
+-- B1: the run that goes on after q, which ran on xs, where there are `places` in all
 abbrev pub goesOn : {A : Type 0} → Ops A → Ran A → List A → List A → ℕ → Ran A
 goesOn o q xs ys places = ran o (q .state) (drop (q .taken) xs ++ ys) (places - length (q .values))
 
--- "the same strobes one after the other, the same sum of counts and the same final state"
+-- B1: two runs as one: the strobes in a row, the sum of the counts, and the last state
 abbrev pub together : {A : Type 0} → Ran A → Ran A → Ran A
 together q r = record { state = r .state; taken = q .taken + r .taken; values = q .values ++ r .values }
 
--- ---- two calls, on samples of w f32
+-- ---- B1: two calls as one, on samples of w f32
 abbrev pub callTogether : {A : Type 0} → ℕ → Outcome A → Outcome A → Outcome A
 callTogether w q r = record { number = r .number; consumed = q .consumed + r .consumed; produced = q .produced + r .produced; state = r .state; output = take (w * q .produced) (q .output) ++ r .output }
 

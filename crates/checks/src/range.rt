@@ -2,14 +2,14 @@
 ghost use mathlib.Core.Path.{_≡_};
 ghost use Rattle.checks.specs.Range.{inRange, positive};
 
-// Whether x is finite and lies in lo to hi, both ends included.
+// A3: whether x is finite and lies in lo to hi, both ends included.
 pub fn within(lo: f64, x: f64, hi: f64) -> bool
     ensures { λ r. ⌜ r ≡ inRange lo x hi ⌝ }
 {
     numbers::is_finite_f64(x) && lo <= x && x <= hi
 }
 
-// Whether x is finite and above 0.
+// E5: whether x is finite and above 0.
 pub fn above_zero(x: f64) -> bool
     ensures { λ r. ⌜ r ≡ positive x ⌝ }
 {

@@ -40,7 +40,7 @@ stateOf s =
 abbrev pub line : declaredHist.Hist → List Float → List C32
 line h xs = run.line (hist h) (samples xs)
 
--- a run's answer, the state after it and what the output holds
+-- K7: a run's answer, the state after it and what the output holds
 abbrev pub outcomeOf : Answer → Sync C32 → List Float → Outcome C32
 outcomeOf a s ys = record { number = number a; consumed = consumed a; produced = produced a; state = s; output = ys }
 
@@ -51,7 +51,7 @@ answered r ys = outcomeOf (r .answer) (sync (r .state)) ys
 abbrev pub recovered : declaredRecovered.Recovered → List Float → Outcome C32
 recovered r ys = record { number = 0; consumed = r .progress .consumed; produced = r .progress .produced; state = sync (r .state); output = ys }
 
--- a set-up's answer
+-- K7: a set-up's answer
 abbrev pub opening : SetUp → Opening C32
 opening (Ready s) = opened (sync s)
 opening (Refused n) = refused n

@@ -28,7 +28,7 @@ ghost use Rattle.complex_sync.specs.Views.{track, hist, sync, line, outc
 
 // ---- Windows
 
-// Sample j of the history followed by the input.
+// T7: sample j of the history followed by the input.
 fn at(h: Hist, input: &[f32], j: usize) -> C32
     requires { ⌜ j < length (now input) / 2 + 3 ⌝ }
     ensures { λ r. ⌜ r ≡ getD (line h (now (input .entry))) j (complex .zero) ⌝ }
@@ -45,8 +45,8 @@ fn at(h: Hist, input: &[f32], j: usize) -> C32
     values::sample_at(input, j - HIST)
 }
 
-// The window of the position with integer part i: samples i - 1 to i + 2. Past the history it is read
-// straight from the input.
+// T7: the window of the position with integer part i: samples i - 1 to i + 2.
+// Past the history it is read directly from the input.
 fn window(h: Hist, input: &[f32], i: usize) -> [C32; 4]
     requires { ⌜ (1 ≤ i) × (i ≤ length (now input) / 2) ⌝ }
     ensures { λ r. ⌜ r ≡ loop.windowAt complex (line h (now (input .entry))) i ⌝ }
@@ -67,7 +67,7 @@ fn window(h: Hist, input: &[f32], i: usize) -> [C32; 4]
     }
 }
 
-// The value at (i, mu).
+// T8: the value at (i, mu).
 fn value_at(h: Hist, input: &[f32], i: usize, mu: f64) -> C32
     requires { ⌜ (1 ≤ i) × (i ≤ length (now input) / 2) ⌝ }
     ensures { λ r. ⌜ r ≡ loop.valueAt complex (line h (now (input .entry))) i mu ⌝ }
@@ -78,7 +78,7 @@ fn value_at(h: Hist, input: &[f32], i: usize, mu: f64) -> C32
 
 // ---- One output place
 
-// The middle is taken, where it is lacking and can be worked out.
+// T10: the midpoint sample (middle) is taken, where it is lacking and available.
 fn take_mid(p: Params, h: Hist, t: Track, input: &[f32]) -> Track
     requires { ⌜ Running p (t .clock) (loop.lacks p (track t)) (length (now input) / 2) ⌝ }
     ensures { λ r. ⌜ track r ≡ loop.midTaken complex p (line h (now (input .entry))) (track t) ⌝ }
@@ -97,7 +97,7 @@ fn take_mid(p: Params, h: Hist, t: Track, input: &[f32]) -> Track
     t
 }
 
-// The decision that is kept: Gardner takes none.
+// T15: the decision that is kept: Gardner makes none.
 fn decision(ted: Ted, d_prev: C32, y: C32) -> C32
     ensures { λ r. ⌜ r ≡ loop.decision complex ted «d_prev» y ⌝ }
 {
@@ -107,7 +107,7 @@ fn decision(ted: Ted, d_prev: C32, y: C32) -> C32
     }
 }
 
-// The detector's error at the strobe y with the decision d.
+// T14, T15: the detector's error at the strobe y with the decision d.
 fn error(ted: Ted, t: Track, y: C32, d: C32) -> f32
     ensures { λ r. ⌜ r ≡ loop.errorOf complex ted (track t) y d ⌝ }
 {
@@ -117,7 +117,7 @@ fn error(ted: Ted, t: Track, y: C32, d: C32) -> f32
     }
 }
 
-// What the strobe y changes.
+// T9: what the strobe y changes.
 fn strobe(p: Params, t: Track, y: C32) -> Track
     requires { ⌜ GivenStrobe p (t .clock) ⌝ }
     ensures { λ r. ⌜ track r ≡ loop.strobed complex p (track t) y ⌝ }
@@ -139,13 +139,13 @@ fn strobe(p: Params, t: Track, y: C32) -> Track
 
 // ---- A run
 
-// What the loop has come to.
+// The track after the loop, and how many strobes it has written.
 struct Strobed {
     track: Track,
     produced: usize,
 }
 
-// Strobes while an output place is left and the next one can be worked out.
+// T9: strobes go to the output until its places are full or the next strobe is not available (T12).
 fn strobes(p: Params, h: Hist, t: Track, input: &[f32], output: &mut [f32]) -> Strobed
     requires { ⌜ Running p (t .clock) (loop.lacks p (track t)) (length (now input) / 2) ⌝ }
     ensures last { λ r. ⌜ track (r .track) ≡ loop.runs complex p (line h (now (input .entry))) (length (now (output .entry)) / 2) (track t) .last ⌝ }
@@ -174,7 +174,7 @@ fn strobes(p: Params, h: Hist, t: Track, input: &[f32], output: &mut [f32]) -> S
     }
 }
 
-// The three samples from position k on, which become the history.
+// T20: the three samples from position k on, which become the history.
 fn hist_at(h: Hist, input: &[f32], k: usize) -> Hist
     requires { ⌜ k ≤ length (now input) / 2 ⌝ }
     ensures { λ r. ⌜ hist r ≡ histAt complex (line h (now (input .entry))) k ⌝ }
@@ -191,8 +191,8 @@ pub struct Recovered {
     pub state: SymbolSyncState,
 }
 
-// The strobes go to the front of the output. A last f32 without a partner, in either buffer, is left
-// alone: `run` refuses such a buffer.
+// T9: a call that is not refused: the strobes go to the front of the output.
+// A last f32 without a partner, in either buffer, is left alone: `run` refuses such a buffer.
 pub fn recover(s: SymbolSyncState, input: &[f32], output: &mut [f32]) -> Recovered
     requires { ⌜ Given (sync s) ⌝ }
     ensures outcome { λ r. ⌜ recovered r (now (output .exit)) ≡ doneComplex (sync s) (now (input .entry)) (now (output .entry)) ⌝ }
@@ -229,8 +229,8 @@ pub struct Ran {
     pub state: SymbolSyncState,
 }
 
-// One call: the strobes go to the front of the output. An odd count of f32 in the input or the output
-// is refused, with the same state and the output as found.
+// T1: one call: the strobes go to the front of the output.
+// An odd buffer is refused (E8), and then nothing changes.
 pub fn run(s: SymbolSyncState, input: &[f32], output: &mut [f32]) -> Ran
     requires { ⌜ Given (sync s) ⌝ }
     ensures outcome { λ r. ⌜ answered r (now (output .exit)) ≡ calledComplex (sync s) (now (input .entry)) (now (output .entry)) ⌝ }
@@ -251,7 +251,7 @@ pub fn run(s: SymbolSyncState, input: &[f32], output: &mut [f32]) -> Ran
     }
 }
 
-// The entry over a state that the caller lends, which is brought up to date.
+// T25: `run` over a state that the caller lends; the new state is stored in it.
 pub fn symbol_sync(s: &mut SymbolSyncState, input: &[f32], output: &mut [f32]) -> Answer
     requires { ⌜ Given (sync (now s)) ⌝ }
     ensures outcome { λ r. ⌜ outcomeOf r (sync (now (s .exit))) (now (output .exit)) ≡ calledComplex (sync (now (s .entry))) (now (input .entry)) (now (output .entry)) ⌝ }

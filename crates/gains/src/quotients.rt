@@ -1,4 +1,4 @@
-// The quotients, in f64, brackets as the source has them, one rounding each.
+// The quotients, in f64, in the original's order and brackets.
 ghost use mathlib.Core.Path.{_≡_};
 ghost use Rattle.gains.specs.Quotients.{proportional, integral};
 
@@ -8,7 +8,7 @@ pub struct Quotients {
     pub ki: f64,
 }
 
-// The quotients of a loop with the bandwidth loop_bw, normalized to the symbol rate, and this damping.
+// T3: the quotients of a loop with the bandwidth loop_bw, normalized to the symbol rate, and this damping.
 pub fn inner_gains(loop_bw: f64, damping: f64) -> Quotients
     ensures { λ r. ⌜ r ≡ record { kp = proportional «loop_bw» damping; ki = integral «loop_bw» damping } ⌝ }
 {

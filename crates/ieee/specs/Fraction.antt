@@ -1,4 +1,5 @@
--- The fraction (plus - less) / over that a finite float is, in ℕ; how far two fractions lie apart; what it is for a float to have a value and to lie between bounds. Definitions only.
+-- The fraction (plus - less) / over that a finite float is, in ℕ; how far two fractions lie apart;
+-- what it is for a float to have a value and to lie between bounds. Definitions only.
 use mathlib.Core.Path.{_≡_}
 use Prim.Native.Nat.{ℕ, suc, _+_, _*_, _^_, _≤_}
 use mathlib.Core.Bool.{Bool, true, false}

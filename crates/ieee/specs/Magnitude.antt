@@ -1,4 +1,4 @@
--- "`fabsf` clears the sign". Definitions only.
+-- N9: |x|, the float without its sign. Definitions only.
 use mathlib.Core.Bool.{false}
 use lib.Ieee.{Float, nan, inf, fin}
 

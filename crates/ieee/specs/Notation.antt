@@ -1,4 +1,5 @@
--- The notation of all definitions: arithmetic in f32 (round operators) and in f64 (square ones), each rounded once; and the numbers that they share. Definitions only.
+-- N1: the notation of all definitions: arithmetic in f32 (round operators) and in f64 (square ones),
+-- where each operation rounds once; and numbers that both formats hold. Definitions only.
 use Prim.Native.Nat.{ℕ}
 use mathlib.Core.Bool.{false}
 use lib.IntN.{pos, negsuc}
@@ -57,6 +58,6 @@ four₀ = fin false 1 (pos 2)
 abbrev pub eight₀ : Float
 eight₀ = fin false 1 (pos 3)
 
--- ---- a / b, the nearest number of the format
+-- ---- N2: a / b as the nearest number of the format
 abbrev pub decimal : Format → ℕ → ℕ → Float
 decimal f a b = round f false a b

@@ -1,8 +1,8 @@
--- "narrowed to f32": to the nearest, a tie to the even one. Definitions only.
+-- Narrowing of an f64 to an f32: to the nearest, a tie to the even one. Definitions only.
 use Prim.Native.Nat.{_*_}
 use lib.Ieee.{Float, nan, inf, fin, binary32, up, down, round}
 
--- x as an f32: its value rounded once, to an infinity where it is too large; a NaN is itself
+-- N5: x as an f32: its value rounded once, to an infinity where it is too large; a NaN is itself
 unfoldable pub narrowed : Float → Float
 narrowed nan = nan
 narrowed (inf s) = inf s

@@ -1,4 +1,4 @@
--- "`libm` floor is the greatest whole number not above". Definitions only.
+-- The floor of an f64, and whole numbers beside it. Definitions only.
 use mathlib.Core.Path.{_≡_}
 use Prim.Native.Nat.{ℕ, _+_, _-_, _*_, _/_}
 use mathlib.Core.Bool.{Bool, true, false}
@@ -12,7 +12,8 @@ abbrev pub wholeDown : Bool → ℕ → ℕ → ℕ
 wholeDown false a c = a / c
 wholeDown true a c = (a + (c - 1)) / c
 
--- the greatest whole number not above x; a NaN, an infinity and a zero are themselves. An f64 holds it, so that `round` loses nothing (`floor-val`)
+-- N4: the floor of x; a NaN, an infinity and a zero are themselves.
+-- An f64 holds it, so that `round` loses nothing (`floor-val`)
 unfoldable pub floored : Float → Float
 floored nan = nan
 floored (inf s) = inf s
@@ -35,7 +36,8 @@ floorLess (fin true m e) = wholeDown true (m * up e) (down e)
 abbrev pub far : Float
 far = fin false 1 (pos 52)
 
--- r is a whole number less than 1 away from x: x itself if that is whole (a zero may change its sign), else its floor or the next one up
+-- r is a whole number less than 1 away from x: x itself if that is whole (a zero may change its sign),
+-- else its floor or the next one up
 pub data Beside (x r : Float) : Type 0 where
   same : x ≡ floored x → T (eq r x) → Beside x r
   under : T (lt (floored x) x) → r ≡ floored x → Beside x r

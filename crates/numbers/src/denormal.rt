@@ -1,4 +1,4 @@
-// Flushing, from num.rs.
+// Flushing to zero, from num.rs.
 ghost use mathlib.Core.Path.{_≡_};
 ghost use lib.Ieee.{binary32, binary64};
 ghost use Rattle.numbers.specs.Denormal.{flushed};
@@ -8,7 +8,7 @@ pub const TINY_F32: f32 = 1e-30;
 
 const TINY_F64: f64 = 1e-30;
 
-// Returns 0.0 when |x| < 1e-30 (NaN is unchanged), otherwise x.
+// N3: returns 0.0 when |x| < 1e-30 (NaN is unchanged), otherwise x.
 pub fn flush_denormal(x: f32) -> f32
     ensures { λ r. ⌜ r ≡ flushed binary32 x ⌝ }
 {
@@ -19,7 +19,7 @@ pub fn flush_denormal(x: f32) -> f32
     }
 }
 
-// f64 variant of flush_denormal.
+// N3: f64 variant of flush_denormal.
 pub fn flush_denormal_f64(x: f64) -> f64
     ensures { λ r. ⌜ r ≡ flushed binary64 x ⌝ }
 {

@@ -1,5 +1,5 @@
-// Numbers, from num.rs: flushing; and what document 01 adds: floor, narrowing, widening, limits,
-// finiteness and the sign.
+// Operations on one number (N): flushing, from num.rs; and floor, narrowing, widening, limits,
+// finiteness and the sign, which are added.
 mod denormal;
 mod fields;
 mod narrowing;

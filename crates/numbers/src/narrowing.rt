@@ -1,4 +1,4 @@
-// Narrowing an f64 to an f32 by bits, which the source writes `as f32`.
+// Narrowing an f64 to an f32 by bits, which the original writes `as f32`.
 use crate::fields::INFINITY_F32;
 use crate::fields::LEADING_F32;
 use crate::fields::LEADING_F64;
@@ -23,10 +23,10 @@ const BEYOND: u64 = 1151;
 // Of 53 digits 24 are kept. The last of the 29 places shifted out rounds; these come before it.
 const SHIFTED_OUT: u64 = 28;
 
-// i / 2^(places + 1) to the nearest whole number, ties to even, where `lost` adds a half to i. It
-// calls itself for each place shifted out but the last, which rounds, and `lost` says whether one of
-// them was a one. The last place is as good as random, so that no branch turns on it: a tie goes up
-// where i % 4 is 3.
+// F10: i / 2^(places + 1) to the nearest whole number, ties to even, where `lost` adds a half to i.
+// Each call drops one place; the last one rounds, and `lost` says whether a place dropped
+// before was a one. The last place is not predictable, so that no branch depends on it:
+// a tie goes up where i % 4 is 3.
 fn shifted(i: u64, lost: bool, places: u64) -> u64
     ensures { λ r. ⌜ r ≡ closest (i * 2 + cond lost 1 0) (2 ^ (places + 2)) ⌝ }
 {
@@ -61,8 +61,8 @@ fn narrow_bits(size: u64) -> u64
     }
 }
 
-// The f32 nearest to x, ties to even, an infinity where x is too large. A zero keeps its sign, and a
-// NaN stays one.
+// N5: the f32 nearest to x, ties to even, an infinity where x is too large.
+// A zero keeps its sign, and a NaN stays one.
 pub fn narrow(x: f64) -> f32
     ensures { λ r. ⌜ r ≡ narrowed x ⌝ }
 {

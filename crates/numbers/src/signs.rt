@@ -2,7 +2,7 @@
 ghost use mathlib.Core.Path.{_≡_};
 ghost use Rattle.numbers.specs.Sign.{signOf};
 
-// 1 above zero, -1 below, 0 for zero and NaN.
+// N8: 1 above zero, -1 below, 0 for zero and NaN.
 pub fn sign(x: f32) -> f32
     ensures { λ r. ⌜ r ≡ signOf x ⌝ }
 {

@@ -1,4 +1,4 @@
-// The floor of an f64, which the source takes from `libm`.
+// The floor of an f64, which the original takes from `libm`.
 ghost use mathlib.Core.Path.{_≡_};
 ghost use mathlib.Core.Bool.{cond};
 ghost use lib.Dec.{T};
@@ -9,8 +9,8 @@ ghost use Rattle.numbers.specs.Whole.{floored, far, Beside};
 // 2^52: from here up an f64 has no fraction.
 const FAR: f64 = 4_503_599_627_370_496.0;
 
-// 1 where m lies above x, else 0. Whether it does is as good as random, so that no branch turns on
-// it: this is a choice between two numbers.
+// 1 where m lies above x, else 0. Whether it does is not predictable, so that no branch depends on it:
+// this is a choice between two numbers.
 fn above(m: f64, x: f64) -> f64
     ensures { λ r. ⌜ r ≡ cond (lt x m) one₀ zero₀ ⌝ }
 {
@@ -31,9 +31,9 @@ fn mended(m: f64, x: f64) -> f64
     m - above(m, x)
 }
 
-// The greatest whole number not above x. A NaN and an infinity come back as they are, and a zero
-// with its sign. Below 2^52 in size, 2^52 added and taken off again leaves a whole number less than 1
-// away from x. Each sign has a path of its own, which costs less than a choice between two sums.
+// N4: the floor of x. A NaN and an infinity come back as they are, and a zero with its sign.
+// Below 2^52 in size, 2^52 added and taken off again leaves a whole number less than 1 away from x.
+// Each sign has its own branch, which costs less than a choice between two sums.
 pub fn floor(x: f64) -> f64
     ensures { λ r. ⌜ r ≡ floored x ⌝ }
 {

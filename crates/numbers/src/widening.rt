@@ -1,4 +1,4 @@
-// Widening an f32 to an f64 by bits, which the source writes `f64::from`.
+// Widening an f32 to an f64 by bits, which the original writes `f64::from`.
 use crate::fields::INFINITY_F32;
 use crate::fields::INFINITY_F64;
 use crate::fields::LEADING_F32;
@@ -34,7 +34,7 @@ fn widen_bits(size: u64) -> u64
     }
 }
 
-// x as an f64: the same number, the same infinity, or a NaN.
+// N6: x as an f64: the same number, the same infinity, or a NaN.
 pub fn widen(x: f32) -> f64
     ensures { λ r. ⌜ r ≡ x ⌝ }
 {

@@ -32,7 +32,7 @@ outcomeOf q s ys = record { number = 0; consumed = q .consumed; produced = q .pr
 abbrev pub answered : declaredRan.Ran → List Float → Outcome Float
 answered r ys = outcomeOf (r .progress) (sync (r .state)) ys
 
--- a set-up's answer
+-- K7: a set-up's answer
 abbrev pub opening : SetUp → Opening Float
 opening (Ready s) = opened (sync s)
 opening (Refused n) = refused n

@@ -24,7 +24,7 @@ ghost use Rattle.real_sync.specs.Views.{track, hist, sync, line, outcome
 
 // ---- Windows
 
-// Sample j of the history followed by the input.
+// T7: sample j of the history followed by the input.
 fn at(h: Hist, input: &[f32], j: usize) -> f32
     requires { ⌜ j < length (now input) + 3 ⌝ }
     ensures { λ r. ⌜ r ≡ getD (line h (now (input .entry))) j (real .zero) ⌝ }
@@ -41,8 +41,8 @@ fn at(h: Hist, input: &[f32], j: usize) -> f32
     input[j - HIST]
 }
 
-// The window of the position with integer part i: samples i - 1 to i + 2. Past the history it is read
-// straight from the input.
+// T7: the window of the position with integer part i: samples i - 1 to i + 2.
+// Past the history it is read directly from the input.
 fn window(h: Hist, input: &[f32], i: usize) -> [f32; 4]
     requires { ⌜ (1 ≤ i) × (i ≤ length (now input)) ⌝ }
     ensures { λ r. ⌜ r ≡ loop.windowAt real (line h (now (input .entry))) i ⌝ }
@@ -63,7 +63,7 @@ fn window(h: Hist, input: &[f32], i: usize) -> [f32; 4]
     }
 }
 
-// The value at (i, mu).
+// T8: the value at (i, mu).
 fn value_at(h: Hist, input: &[f32], i: usize, mu: f64) -> f32
     requires { ⌜ (1 ≤ i) × (i ≤ length (now input)) ⌝ }
     ensures { λ r. ⌜ r ≡ loop.valueAt real (line h (now (input .entry))) i mu ⌝ }
@@ -74,7 +74,7 @@ fn value_at(h: Hist, input: &[f32], i: usize, mu: f64) -> f32
 
 // ---- One output place
 
-// The middle is taken, where it is lacking and can be worked out.
+// T10: the midpoint sample (middle) is taken, where it is lacking and available.
 fn take_mid(p: Params, h: Hist, t: Track, input: &[f32]) -> Track
     requires { ⌜ Running p (t .clock) (loop.lacks p (track t)) (length (now input)) ⌝ }
     ensures { λ r. ⌜ track r ≡ loop.midTaken real p (line h (now (input .entry))) (track t) ⌝ }
@@ -93,7 +93,7 @@ fn take_mid(p: Params, h: Hist, t: Track, input: &[f32]) -> Track
     t
 }
 
-// The decision that is kept: Gardner takes none.
+// T15: the decision that is kept: Gardner makes none.
 fn decision(ted: Ted, d_prev: f32, y: f32) -> f32
     ensures { λ r. ⌜ r ≡ loop.decision real ted «d_prev» y ⌝ }
 {
@@ -103,7 +103,7 @@ fn decision(ted: Ted, d_prev: f32, y: f32) -> f32
     }
 }
 
-// The detector's error at the strobe y with the decision d.
+// T14, T15: the detector's error at the strobe y with the decision d.
 fn error(ted: Ted, t: Track, y: f32, d: f32) -> f32
     ensures { λ r. ⌜ r ≡ loop.errorOf real ted (track t) y d ⌝ }
 {
@@ -113,7 +113,7 @@ fn error(ted: Ted, t: Track, y: f32, d: f32) -> f32
     }
 }
 
-// What the strobe y changes.
+// T9: what the strobe y changes.
 fn strobe(p: Params, t: Track, y: f32) -> Track
     requires { ⌜ GivenStrobe p (t .clock) ⌝ }
     ensures { λ r. ⌜ track r ≡ loop.strobed real p (track t) y ⌝ }
@@ -135,13 +135,13 @@ fn strobe(p: Params, t: Track, y: f32) -> Track
 
 // ---- A run
 
-// What the loop has come to.
+// The track after the loop, and how many strobes it has written.
 struct Strobed {
     track: Track,
     produced: usize,
 }
 
-// Strobes while an output place is left and the next one can be worked out.
+// T9: strobes go to the output until its places are full or the next strobe is not available (T12).
 fn strobes(p: Params, h: Hist, t: Track, input: &[f32], output: &mut [f32]) -> Strobed
     requires { ⌜ Running p (t .clock) (loop.lacks p (track t)) (length (now input)) ⌝ }
     ensures last { λ r. ⌜ track (r .track) ≡ loop.runs real p (line h (now (input .entry))) (length (now (output .entry))) (track t) .last ⌝ }
@@ -170,7 +170,7 @@ fn strobes(p: Params, h: Hist, t: Track, input: &[f32], output: &mut [f32]) -> S
     }
 }
 
-// The three samples from position k on, which become the history.
+// T20: the three samples from position k on, which become the history.
 fn hist_at(h: Hist, input: &[f32], k: usize) -> Hist
     requires { ⌜ k ≤ length (now input) ⌝ }
     ensures { λ r. ⌜ hist r ≡ histAt real (line h (now (input .entry))) k ⌝ }
@@ -187,7 +187,7 @@ pub struct Ran {
     pub state: SymbolSyncState,
 }
 
-// One call: the strobes go to the front of the output.
+// T1: one call: the strobes go to the front of the output.
 pub fn run(s: SymbolSyncState, input: &[f32], output: &mut [f32]) -> Ran
     requires { ⌜ Given (sync s) ⌝ }
     ensures outcome { λ r. ⌜ answered r (now (output .exit)) ≡ calledReal (sync s) (now (input .entry)) (now (output .entry)) ⌝ }
@@ -218,7 +218,7 @@ pub fn run(s: SymbolSyncState, input: &[f32], output: &mut [f32]) -> Ran
     }
 }
 
-// The entry over a state that the caller lends, which is brought up to date.
+// T25: `run` over a state that the caller lends; the new state is stored in it.
 pub fn symbol_sync(s: &mut SymbolSyncState, input: &[f32], output: &mut [f32]) -> Progress
     requires { ⌜ Given (sync (now s)) ⌝ }
     ensures outcome { λ r. ⌜ outcomeOf r (sync (now (s .exit))) (now (output .exit)) ≡ calledReal (sync (now (s .entry))) (now (input .entry)) (now (output .entry)) ⌝ }

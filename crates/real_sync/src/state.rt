@@ -13,7 +13,7 @@ ghost use Rattle.timing.specs.Given.{Tuned};
 ghost use Rattle.timing.specs.Run.{fresh, openedBy, OpeningGiven, Given};
 ghost use Rattle.real_sync.specs.Views.{sync, opening};
 
-// The last three samples, oldest first; index 0 of the positions.
+// T5: the last three samples, oldest first; index 0 of the positions.
 #[repr(C)]
 pub struct Hist {
     pub a: f32,
@@ -21,20 +21,20 @@ pub struct Hist {
     pub c: f32,
 }
 
-// What a run changes while it loops.
+// T5: what a run changes while it loops.
 #[repr(C)]
 pub struct Track {
     pub clock: Clock,
     pub y_prev: f32,
     pub d_prev: f32,
-    // The middle sample of the next strobe, valid when mid_ready.
+    // The midpoint sample (middle) of the next strobe, valid when mid_ready.
     pub mid: f32,
     pub mid_ready: bool,
     // False until the first strobe, which uses e = 0.
     pub started: bool,
 }
 
-// The state of the loop: what a set-up settles, the history, and what a run changes.
+// T5, F3: the state of the loop: the values of the set-up, the history, and what a run changes.
 pub struct SymbolSyncState {
     pub params: Params,
     pub hist: Hist,
@@ -43,8 +43,8 @@ pub struct SymbolSyncState {
 
 // ---- Set-up
 
-// The fresh state of these parameters: a zero history, the first strobe at input sample 1, omega = sps
-// and a zero integrator.
+// T6: the fresh state of these parameters: a zero history, the first strobe at input sample 1,
+// omega = sps and a zero integrator.
 fn start(p: Params) -> SymbolSyncState
     requires { ⌜ Tuned p ⌝ }
     ensures state { λ r. ⌜ sync r ≡ fresh real p ⌝ }
@@ -77,9 +77,10 @@ pub enum SetUp {
     Refused(Refusal),
 }
 
-// A fresh state, or the lowest number of what is wrong with the six values: sps, 2 to 1,000,000 samples
-// per symbol; loop_bw, 0.0001 to 0.1 of the symbol rate; damping, 0.1 to 4 (1/√2 is usual);
-// max_deviation, 0 to 0.05 of sps; ted_gain, above 0, the detector's slope per symbol of offset.
+// T4: a fresh state, or the lowest number of what is wrong with the six values (T2):
+// sps, 2 to 1,000,000 samples per symbol; loop_bw, 0.0001 to 0.1 of the symbol rate;
+// damping, 0.1 to 4 (1/√2 is usual); max_deviation, 0 to 0.05 of sps; ted_gain, above 0,
+// the detector's slope per symbol of offset.
 pub fn set_up(
     sps: f64,
     ted: Ted,
@@ -101,7 +102,7 @@ pub fn set_up(
     }
 }
 
-// The fresh state of the same parameters.
+// T6: the fresh state of the same parameters.
 pub fn reset(s: SymbolSyncState) -> SymbolSyncState
     requires { ⌜ Given (sync s) ⌝ }
     ensures state { λ r. ⌜ sync r ≡ fresh real (s .params) ⌝ }
@@ -114,14 +115,14 @@ pub fn reset(s: SymbolSyncState) -> SymbolSyncState
 // ---- Readings
 
 impl SymbolSyncState {
-    // The current estimate of the samples per symbol.
+    // T21: the current estimate of the samples per symbol (pace).
     pub fn sps_estimate(self) -> f64
         ensures { λ r. ⌜ r ≡ self .track .clock .omega ⌝ }
     {
         self.track.clock.omega
     }
 
-    // The position of the next strobe in input samples, counted from the first sample of the next
+    // T21: the position of the next strobe in input samples, counted from the first sample of the next
     // call's input. It is negative while the strobe lies in the history.
     pub fn next_strobe(self) -> f64
         ensures { λ r. ⌜ r ≡ nextStrobe (self .track .clock) ⌝ }
@@ -129,14 +130,14 @@ impl SymbolSyncState {
         timing::next_strobe(self.track.clock)
     }
 
-    // The nominal samples per symbol.
+    // T2: the nominal samples per symbol.
     pub fn sps(self) -> f64
         ensures { λ r. ⌜ r ≡ self .params .sps ⌝ }
     {
         self.params.sps
     }
 
-    // The timing error detector.
+    // T2: the timing error detector.
     pub fn ted(self) -> Ted
         ensures { λ r. ⌜ r ≡ self .params .ted ⌝ }
     {
@@ -144,28 +145,28 @@ impl SymbolSyncState {
         p.ted
     }
 
-    // The loop bandwidth, normalized to the symbol rate.
+    // T2: the loop bandwidth, normalized to the symbol rate.
     pub fn loop_bw(self) -> f64
         ensures { λ r. ⌜ r ≡ self .params .«loop_bw» ⌝ }
     {
         self.params.loop_bw
     }
 
-    // The damping of the loop.
+    // T2: the damping of the loop.
     pub fn damping(self) -> f64
         ensures { λ r. ⌜ r ≡ self .params .damping ⌝ }
     {
         self.params.damping
     }
 
-    // The largest deviation of omega from sps, as a fraction of sps.
+    // T2: the largest deviation of omega from sps, as a fraction of sps.
     pub fn max_deviation(self) -> f64
         ensures { λ r. ⌜ r ≡ self .params .«max_deviation» ⌝ }
     {
         self.params.max_deviation
     }
 
-    // The detector gain that the loop gains are divided by.
+    // T2: the detector gain that the loop gains are divided by.
     pub fn ted_gain(self) -> f64
         ensures { λ r. ⌜ r ≡ self .params .«ted_gain» ⌝ }
     {

@@ -1,5 +1,5 @@
-// The clock's steps, from fallback/symbol_sync.rs: where the middle sample lies, the clock after a strobe,
-// what a run has consumed. Nothing here requires anything but a clock that a state has given.
+// The clock's steps, from fallback/symbol_sync.rs: where the midpoint sample (middle) lies, the clock after a
+// strobe, what a run has consumed. Nothing here requires anything but a clock that a state has given.
 mod steps;
 
 pub use steps::Place;

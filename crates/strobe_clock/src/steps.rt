@@ -14,7 +14,7 @@ ghost use Rattle.timing.specs.Given.{GivenClock, GivenMiddle, GivenStrobe};
 // sample 1, the first position with a full window.
 const START: usize = 4;
 
-// The clock of a fresh state: the first strobe at input sample 1, omega = sps and a zero integrator.
+// T6: the clock of a fresh state: the first strobe at input sample 1, omega = sps and a zero integrator.
 pub fn fresh_clock(sps: f64) -> Clock
     ensures { λ r. ⌜ r ≡ freshClock sps ⌝ }
 {
@@ -41,7 +41,7 @@ fn count(f: f64) -> usize
     (f as i64) as usize
 }
 
-// The position t - omega/2 of the middle sample.
+// T10: the position t - omega/2 of the midpoint sample (middle), t being the strobe's.
 pub fn mid_position(c: Clock) -> Place
     requires { ⌜ GivenMiddle c ⌝ }
     ensures { λ r. ⌜ r ≡ record { i = midIndex c; mu = midPart c } ⌝ }
@@ -55,7 +55,7 @@ pub fn mid_position(c: Clock) -> Place
     Place { i: i, mu: mu }
 }
 
-// The clock after a strobe with the finite error e.
+// T16 to T18: the clock after a strobe with the finite error e.
 fn step_on(p: Params, c: Clock, e: f64) -> Clock
     requires { ⌜ On (c .i) (moved p c e) ⌝ }
     ensures { λ r. ⌜ r ≡ advanced p c e ⌝ }
@@ -74,8 +74,7 @@ fn step_on(p: Params, c: Clock, e: f64) -> Clock
     }
 }
 
-// The clock after a strobe with the detector's error e, which counts as 0 on the first strobe and where
-// it is not finite.
+// T18: the clock after a strobe with the detector's error e, which T13 may make 0.
 pub fn advance(p: Params, c: Clock, started: bool, e: f32) -> Clock
     requires { ⌜ GivenStrobe p c ⌝ }
     ensures { λ r. ⌜ r ≡ advanced p c (settled started e) ⌝ }
@@ -83,7 +82,7 @@ pub fn advance(p: Params, c: Clock, started: bool, e: f32) -> Clock
     step_on(p, c, timing::settle(started, e))
 }
 
-// Whether a middle is still to be taken: Gardner, once started and holding none.
+// T10: whether a middle is due.
 pub fn lacks(ted: Ted, started: bool, mid_ready: bool) -> bool
     ensures { λ r. ⌜ r ≡ lacking ted started «mid_ready» ⌝ }
 {
@@ -93,7 +92,7 @@ pub fn lacks(ted: Ted, started: bool, mid_ready: bool) -> bool
     }
 }
 
-// Whether a middle is held after a strobe: under Gardner the strobe spends it.
+// T11: whether a middle is held after a strobe: under Gardner it is not.
 pub fn mid_left(ted: Ted, mid_ready: bool) -> bool
     ensures { λ r. ⌜ r ≡ midLeft ted «mid_ready» ⌝ }
 {
@@ -103,15 +102,14 @@ pub fn mid_left(ted: Ted, mid_ready: bool) -> bool
     }
 }
 
-// Whether the strobe can be worked out from n input samples: no middle is lacking, and i + 2 is an
-// index of the n + 3 samples.
+// T12: whether a run over n input samples goes on: no middle is lacking, and i + 2 is an index of the n + 3 samples.
 pub fn can_strobe(lacks: bool, i: usize, n: usize) -> bool
     ensures { λ r. ⌜ r ≡ (not lacks && leb i n) ⌝ }
 {
     !lacks && i <= n
 }
 
-// The count consumed: what lies before the next position that the loop needs, at most n.
+// T19: the count consumed: what lies before the next position that the loop needs, at most n.
 pub fn consumed(c: Clock, lacks: bool, n: usize) -> usize
     requires { ⌜ GivenClock c lacks n ⌝ }
     ensures { λ r. ⌜ r ≡ min (cond lacks (midIndex c) (c .i) - 1) n ⌝ }

@@ -1,4 +1,5 @@
--- "Turned recordings", for the complex timing loop alone: a list of calls, each on the state that the last one left, and what it means that a second list is the first turned k times. Definitions only.
+-- Turned recordings for the complex timing loop alone (Q10): a list of calls, each on the state that the last one
+-- left, and what it means that a second list is the first turned k times. Definitions only.
 use mathlib.Core.Path.{_≡_}
 use Prim.Native.Nat.{ℕ}
 use mathlib.Core.Bool.{Bool, not}
@@ -37,19 +38,19 @@ whole c = not (oddEither (c .input) (c .output))
 abbrev pub strobes : Outcome C32 → List C32
 strobes r = take (r .produced) (samples (r .output))
 
--- "Equal are all numbers and counts answered in the list"; "Each produced strobe is the first list's turned k times"
+-- Q7, Q8: of two calls, the number and the counts are the same, and the strobes are turned k times
 pub record TurnedOutcome (k : ℕ) (q r : Outcome C32) : Type 0 where
   pub number : r .number ≡ q .number
   pub consumed : r .consumed ≡ q .consumed
   pub produced : r .produced ≡ q .produced
   pub turned : AllTurned k (strobes q) (strobes r)
 
--- "and, after it, … instant ((i - 3) + mu), pace (omega)"
+-- Q7: next strobe and pace after two lists of calls are alike
 pub record SameClock (s t : Sync C32) : Type 0 where
   pub instant : Alike (nextStrobe (t .track .clock)) (nextStrobe (s .track .clock))
   pub pace : Alike (t .track .clock .omega) (s .track .clock .omega)
 
--- the single claim about two lists of calls, from the states s and t
+-- Q10: the whole statement about two lists of calls, from the states s and t
 pub record TurnedList (k : ℕ) (s t : Sync C32) (cs ds : List Call) : Type 0 where
   pub answers : Each (TurnedOutcome k) (outcomes s cs) (outcomes t ds)
   pub clocks : SameClock (after s cs) (after t ds)

@@ -1,4 +1,4 @@
--- Worked cases of the timing loop: two windows at 0.5, one error of each detector. Definitions only.
+-- Cases of the timing loop with their values: two windows at 0.5, one error of each detector. Definitions only.
 use mathlib.Core.Path.{_≡_}
 use lib.Ieee.{Float, binary32, ofBits, neg}
 use Rattle.ieee.specs.Notation.{zero₀, quarter₀, half₀, one₀}
@@ -15,11 +15,11 @@ abbrev nine-eighths : Float
 nine-eighths = ofBits binary32 0x3f900000
 
 pub record Cases : Type 0 where
-  -- "Window 0, 0, 1, 0 at 0.5: 0.5625."
+  -- X1: half way to a single 1: 0.5625
   pub one-ahead : real .interp zero₀ zero₀ one₀ zero₀ half₀ ≡ nine-sixteenths
-  -- "0, 1, 1, 0 at 0.5: 1.125."
+  -- X2: half way between two samples of 1: 1.125
   pub one-on-both-sides : real .interp zero₀ one₀ one₀ zero₀ half₀ ≡ nine-eighths
-  -- "Gardner previous 1, strobe -1, middle 0.25: 0.5."
+  -- X3: Gardner's error: 0.5
   pub gardner : real .gardner one₀ (neg one₀) quarter₀ ≡ half₀
-  -- "Mueller-Müller previous decision 1, strobe -0.5, decision -1, previous strobe 0.75: 0.25."
+  -- X4: Mueller and Müller's error: 0.25
   pub mueller-müller : real .mm one₀ (neg half₀) (neg one₀) three-quarters ≡ quarter₀

@@ -1,4 +1,5 @@
--- What holds of every state that a set-up, a reset or a run has given, and while a run loops. No sample enters. Definitions only.
+-- What holds of every state that a set-up, a reset or a run has given, and while a run loops. No sample enters.
+-- Definitions only.
 use mathlib.Core.Path.{_≡_}
 use Prim.Native.Nat.{ℕ, _+_, _≤_, _<_, _^_}
 use mathlib.Core.Bool.{Bool, true}
@@ -21,7 +22,7 @@ abbrev pub TuningGiven : Tuning → Type 0
 TuningGiven (Accepted p) = Tuned p
 TuningGiven (Refused n) = T true
 
--- "the fraction stays in 0 up to but not 1, the spacing within sps plus or minus its deviation, each rounded once"; the integrator stays within its limit
+-- T22: the ranges of fraction, spacing and integrator
 pub record Steady (p : Params) (c : Clock) : Type 0 where
   pub mu-fits : T (fits binary64 (c .mu))
   pub mu-low : T (le zero₀ (c .mu))
@@ -32,7 +33,7 @@ pub record Steady (p : Params) (c : Clock) : Type 0 where
   pub integ-low : T (le (neg (p .lim)) (c .integ))
   pub integ-high : T (le (c .integ) (p .lim))
 
--- with n samples of input ahead, and `mid` if the middle is lacking: the next place needed is 1 or more
+-- with n samples of input ahead, `mid` if the middle is lacking: the next place needed is 1 or more, and T23 bounds i
 pub record Running (p : Params) (c : Clock) (mid : Bool) (n : ℕ) : Type 0 where
   pub params : Tuned p
   pub steady : Steady p c
@@ -48,7 +49,7 @@ GivenClock c mid n = (p : Params) × Running p c mid n
 abbrev pub GivenMiddle : Clock → Type 0
 GivenMiddle c = (n : ℕ) × GivenClock c true n
 
--- whose strobe can be worked out
+-- whose strobe is available
 pub record GivenStrobe (p : Params) (c : Clock) : Type 0 where
   pub mid : Bool
   pub ahead : ℕ

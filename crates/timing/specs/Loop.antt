@@ -1,4 +1,4 @@
--- The timing loop over any sample type, in one list l: "the history stands before the n input samples". Definitions only.
+-- The timing loop over any sample type, on one list l: the history and then the input (T7). Definitions only.
 use Prim.Native.Nat.{ℕ, zero, suc, _+_, _-_, min}
 use mathlib.Core.Bool.{Bool, true, not, _&&_, cond}
 use mathlib.Core.List.{List, [], _∷_}
@@ -13,7 +13,7 @@ use Rattle.timing.specs.declared.clock.Clock.{Clock}
 use Rattle.timing.specs.Sample.{Ops}
 use Rattle.timing.specs.Clock.{midIndex, midPart, advanced, settled, lacking, midLeft}
 
--- what a run changes while it loops
+-- T5: what a run changes while it loops: clock, previous strobe and decision, midpoint sample (middle), two flags
 pub record Track (A : Type 0) : Type 0 where
   pub clock : Clock
   pub yPrev : A
@@ -26,19 +26,19 @@ abbrev pub lacks : {A : Type 0} → Params → Track A → Bool
 lacks p t = lacking (p .ted) (t .started) (t .midReady)
 
 -- ---- a value at (i, mu)
--- "it can be worked out if i + 2 is at most n + 2": l has n + 3 samples
+-- T7: whether the value at index i is available; l has n + 3 samples
 abbrev pub there : {A : Type 0} → List A → ℕ → Bool
 there l i = ltb (i + 2) (length l)
 
--- "a window of four samples at i - 1 to i + 2"
+-- T7: the window at index i
 abbrev pub windowAt : {A : Type 0} → Ops A → List A → ℕ → List A
 windowAt o l i = getD l (i - 1) (o .zero) ∷ getD l i (o .zero) ∷ getD l (i + 1) (o .zero) ∷ getD l (i + 2) (o .zero) ∷ []
 
--- with "mu narrowed to f32"
+-- T8: the interpolated value at (i, mu)
 unfoldable pub valueAt : {A : Type 0} → Ops A → List A → ℕ → Float → A
 valueAt o l i mu = o .interp (getD l (i - 1) (o .zero)) (getD l i (o .zero)) (getD l (i + 1) (o .zero)) (getD l (i + 2) (o .zero)) (narrowed mu)
 
--- ---- the middle is taken first, where it is lacking and can be worked out
+-- ---- T10: the middle is taken first, where it is lacking and available
 abbrev pub withMid : {A : Type 0} → Track A → A → Track A
 withMid t m = record { clock = t .clock; yPrev = t .yPrev; dPrev = t .dPrev; mid = m; midReady = true; started = t .started }
 
@@ -46,28 +46,29 @@ unfoldable pub midTaken : {A : Type 0} → Ops A → Params → List A → Track
 midTaken o p l t = let c = t .clock in cond (lacks p t && there l (midIndex c)) (withMid t (valueAt o l (midIndex c) (midPart c))) t
 
 -- ---- the strobe y
--- the decision kept: Gardner takes none
+-- T15: the decision that is kept; Gardner makes none, and the previous one stays
 unfoldable pub decision : {A : Type 0} → Ops A → Ted → A → A → A
 decision o Gardner d y = d
 decision o MuellerMuller d y = o .decide y
 
--- the detector's error, with the decision d of y
+-- T14, T15: the detector's error, with the decision d of y
 unfoldable pub errorOf : {A : Type 0} → Ops A → Ted → Track A → A → A → Float
 errorOf o Gardner t y d = o .gardner (t .yPrev) y (t .mid)
 errorOf o MuellerMuller t y d = o .mm (t .dPrev) y d (t .yPrev)
 
+-- T9: what the strobe y changes
 unfoldable pub strobed : {A : Type 0} → Ops A → Params → Track A → A → Track A
 strobed o p t y =
     let d = decision o (p .ted) (t .dPrev) y in
     let e = settled (t .started) (errorOf o (p .ted) t y d) in
     record { clock = advanced p (t .clock) e; yPrev = y; dPrev = d; mid = t .mid; midReady = midLeft (p .ted) (t .midReady); started = true }
 
--- ---- "While an output place is left": n places, the values that they get, and the track after them
+-- ---- the strobes of a run with n output places, and the track after them
 pub record Strobes (A : Type 0) : Type 0 where
   pub values : List A
   pub last : Track A
 
--- "If either can't be worked out, the run stops; a middle already taken is retained."
+-- T12: whether the run goes on: no middle is lacking, and the strobe is available
 abbrev pub ready : {A : Type 0} → Params → List A → Track A → Bool
 ready p l t = not (lacks p t) && there l (t .clock .i)
 
@@ -77,6 +78,7 @@ stopped t = record { values = []; last = t }
 abbrev pub more : {A : Type 0} → A → Strobes A → Strobes A
 more y r = record { values = y ∷ r .values; last = r .last }
 
+-- T9: a run with n output places. Where it stops, a middle that was taken stays in the track
 unfoldable pub runs : {A : Type 0} → Ops A → Params → List A → ℕ → Track A → Strobes A
 runs o p l zero t = stopped t
 runs o p l (suc n) t =
@@ -85,15 +87,15 @@ runs o p l (suc n) t =
     cond (ready p l u) (more y (runs o p l n (strobed o p u y))) (stopped u)
 
 -- ---- the end
--- "the next place needed is the untaken middle's whole part (Gardner, started), else i"
+-- T19: the next index that the loop needs
 unfoldable pub pending : {A : Type 0} → Params → Track A → ℕ
 pending p t = cond (lacks p t) (midIndex (t .clock)) (t .clock .i)
 
--- "Consumed is that minus 1, at most n."
+-- T19: the count consumed, of n input samples
 unfoldable pub consumed : {A : Type 0} → Params → Track A → ℕ → ℕ
 consumed p t n = min (pending p t - 1) n
 
--- "i falls by the count consumed"
+-- T20: the clock, and below the track, with k samples consumed
 abbrev pub clockBack : Clock → ℕ → Clock
 clockBack c k = record { i = c .i - k; mu = c .mu; omega = c .omega; integ = c .integ }
 

@@ -1,4 +1,4 @@
--- What the timing loop asks of a sample type, and its two instances: real and complex. In f32, brackets as written, one rounding each. Definitions only.
+-- K6: what the timing loop asks of a sample type, and its two instances, real and complex. In f32. Definitions only.
 use lib.Ieee.{Float, nan}
 use Rattle.values.specs.declared.sample.C32.{C32}
 use Rattle.ieee.specs.Notation.{_⊕_, _⊖_, _⊗_, zero₀}
@@ -7,13 +7,13 @@ use Rattle.timing.specs.Part.{interpolated}
 
 pub record Ops (A : Type 0) : Type 0 where
   pub zero : A
-  -- the value of a window of four at mu
+  -- T8: the value of a window of four at mu
   pub interp : A → A → A → A → Float → A
-  -- "(previous - strobe) × middle, real product plus imaginary"
+  -- T14: Gardner's error, of the previous strobe, the strobe and the middle
   pub gardner : A → A → A → Float
-  -- "a decision is the sign (1, -1 or 0) of each part"
+  -- T15: the decision of a strobe
   pub decide : A → A
-  -- "previous decision times strobe, minus decision times previous strobe"
+  -- T15: Mueller and Müller's error, of the previous decision, the strobe, its decision and the previous strobe
   pub mm : A → A → A → A → Float
 
 abbrev pub real : Ops Float
@@ -26,7 +26,7 @@ real =
       mm = λ b y d q. b ⊗ y ⊖ d ⊗ q;
     }
 
--- "Complex: each part by itself"
+-- complex samples: interpolation and decision act on each part, and an error adds the products of both parts
 abbrev pub complex : Ops C32
 complex =
     record {

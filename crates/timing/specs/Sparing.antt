@@ -6,7 +6,7 @@ use lib.ListN.{length, drop}
 use lib.Ieee.{Float}
 use Rattle.timing.specs.Run.{Outcome}
 
--- of a call with n samples of input, and of the output ys with its `places` places of w floats
+-- A10: of a call with n samples of input, and of the output ys with its `places` places of w floats
 pub record Sparing {A : Type 0} (w n places : ℕ) (ys : List Float) (r : Outcome A) : Type 0 where
   pub produced : r .produced ≤ places
   pub consumed : r .consumed ≤ n

@@ -19,15 +19,16 @@ pub struct Clock {
     pub integ: f64,
 }
 
-// The position of the next strobe in input samples, counted from the first sample of the next call's
-// input. It is negative while the strobe lies in the history.
+// T21: the position of the next strobe in input samples, counted from the first sample of the next
+// call's input. It is negative while the strobe lies in the history.
 pub fn next_strobe(c: Clock) -> f64
     ensures { λ r. ⌜ r ≡ nextStrobe c ⌝ }
 {
     (std::num::nearest_u64_to_f64(c.i as u64) - HIST_SAMPLES) + c.mu
 }
 
-// A detector's error as the loop takes it: 0 on the first strobe, and 0 if it is not finite.
+// T13: a detector's error as the loop takes it: 0 until the loop has started, and in the place
+// of an error that is not finite.
 pub fn settle(started: bool, e: f32) -> f64
     ensures { λ r. ⌜ r ≡ settled started e ⌝ }
 {

@@ -1,14 +1,14 @@
 // The parameters of a timing state.
 
-// The timing error detector.
+// T2: the timing error detector.
 pub enum Ted {
-    // (y_prev - y) m with the middle sample m half a symbol before y: two interpolations a symbol.
+    // (y_prev - y) m with the midpoint sample (middle) m half a symbol before y: two interpolations a symbol.
     Gardner,
     // d_prev y - d y_prev with the decisions d = sign(y): one interpolation a symbol.
     MuellerMuller,
 }
 
-// The six values of a set-up, and the gains and the limit that it works out of them.
+// T2, T3: the six values of a set-up, and the gains and the limit that it works out of them.
 pub struct Params {
     // Samples per symbol.
     pub sps: f64,

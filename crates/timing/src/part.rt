@@ -1,4 +1,4 @@
-// Arithmetic of one part of a sample, in f32, one rounding each.
+// Arithmetic of one part of a sample, in f32.
 ghost use mathlib.Core.Path.{_≡_};
 ghost use Rattle.timing.specs.Part.{interpolated};
 
@@ -9,7 +9,7 @@ const HALF: f32 = 0.5;
 
 const SIXTH: f32 = 0.16666667;
 
-// Cubic Lagrange interpolation mu after x0, from four samples in a row.
+// T8: cubic Lagrange interpolation mu after x0, from four samples in a row.
 pub(crate) fn interp1(xm1: f32, x0: f32, x1: f32, x2: f32, mu: f32) -> f32
     ensures { λ r. ⌜ r ≡ interpolated xm1 x0 x1 x2 mu ⌝ }
 {

@@ -1,4 +1,4 @@
-// The checks of a set-up, its gains and its limit, in f64, brackets as the source has them.
+// The checks of a set-up, its gains and its limit, in f64, in the original's order and brackets.
 use crate::params::Params;
 use crate::params::Ted;
 use values::Refusal;
@@ -38,8 +38,8 @@ struct Gains {
     ki: f64,
 }
 
-// The gains. The detector's error is a timing error in symbols (ted_gain is the detector's slope per
-// symbol); the factor sps makes the corrections samples.
+// T3: the gains. The detector's error is a timing error in symbols (ted_gain is the detector's slope
+// per symbol); the factor sps makes the corrections samples.
 fn gains_of(sps: f64, loop_bw: f64, damping: f64, ted_gain: f64) -> Gains
     ensures { λ r. ⌜ r ≡ record { kp = kpOf sps «loop_bw» damping «ted_gain»; ki = kiOf sps «loop_bw» damping «ted_gain» } ⌝ }
 {
@@ -75,10 +75,10 @@ fn accepted(
     }
 }
 
-// The parameters of a set-up, or the lowest number of what is wrong with it: sps, 2 to 1,000,000
+// T4: the parameters of a set-up, or the lowest number of what is wrong with it: sps, 2 to 1,000,000
 // samples per symbol; loop_bw, 0.0001 to 0.1 of the symbol rate; damping, 0.1 to 4 (1/√2 is usual);
-// max_deviation, 0 to 0.05 of sps; ted_gain, above 0, the detector's slope per symbol of offset. The
-// gains must come out finite.
+// max_deviation, 0 to 0.05 of sps; ted_gain, above 0, the detector's slope per symbol of offset.
+// Both gains must be finite.
 pub fn tune(
     sps: f64,
     ted: Ted,

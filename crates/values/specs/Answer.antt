@@ -1,4 +1,5 @@
--- A run's answer as document 01's number (0: it was accepted) and its two counts: "A refused run yields its number, counts 0 and 0". Definitions only.
+-- K7: what each case of a run's answer stands for: its number, 0 if it is done (A2), and its two counts,
+-- which are 0 if it is refused (A7). Definitions only.
 use Prim.Native.Nat.{ℕ}
 use Rattle.values.specs.declared.progress.Answer.{Answer}
 use Rattle.values.specs.declared.progress.Answer.the-variants.{Done, Refused}

@@ -1,4 +1,5 @@
--- The buffers of a call: which complex ones hold no whole samples, and what a slice holds once values are written to its front. Definitions only.
+-- The buffers of a call: which complex ones hold no whole samples, and what a slice holds once values are written
+-- to its front. Definitions only.
 use Prim.Native.Nat.{_%_}
 use mathlib.Core.Bool.{Bool, _||_}
 use mathlib.Core.List.{List, _++_}
@@ -6,7 +7,7 @@ use lib.Dec.{eqb}
 use lib.ListN.{length, drop}
 use lib.Ieee.{Float}
 
--- number 8: a complex buffer has an odd count of f32
+-- E8: the count of f32 is odd, so that the last sample lacks a part
 abbrev pub odd : List Float → Bool
 odd xs = eqb (length xs % 2) 1
 

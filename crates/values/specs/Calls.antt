@@ -1,4 +1,5 @@
--- A list of calls: "each call gets the receiver that the last one returned or left, a refused one too". Of any state, call and outcome. Definitions only.
+-- Q5: a list of calls, each made on the state that the call before left. Of any state, call and outcome.
+-- Definitions only.
 use mathlib.Core.List.{List, [], _∷_}
 
 -- `call` makes an outcome of a state and what a call lends, and `left` is the state that an outcome leaves

@@ -1,4 +1,4 @@
--- "Answers of a call": the number of each refusal. Definitions only.
+-- E1 to E8: the number of each refusal. Definitions only.
 use Prim.Native.Nat.{ℕ}
 use Rattle.values.specs.declared.error.Refusal.{Refusal}
 use Rattle.values.specs.declared.error.Refusal.the-variants.{Pace, Width, Damping, Pull, Slope, Gains, Uneven, Odd}

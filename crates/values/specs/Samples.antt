@@ -1,4 +1,4 @@
--- "A complex sample is two f32, real part first, in a lent slice of f32." Definitions only.
+-- A1: the complex samples in a slice of f32. Definitions only.
 use Prim.Native.Nat.{ℕ, _*_, _/_}
 use mathlib.Core.Bool.{cond}
 use mathlib.Core.List.{List, [], _∷_}
@@ -12,7 +12,7 @@ use Rattle.values.specs.declared.sample.C32.{C32}
 abbrev pub silence : C32
 silence = record { re = zero₀; im = zero₀ }
 
--- the samples of a slice; a last f32 that has no partner is left out
+-- A1: the samples of a slice; a last f32 that has no partner is left out
 unfoldable pub samples : List Float → List C32
 samples [] = []
 samples (x ∷ []) = []

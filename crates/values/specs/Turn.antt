@@ -1,4 +1,4 @@
--- "One quarter turn makes (re, im) into (-im, re), k of them repeat it." "Floats are equal as numbers, zeros alike, or if both are NaN." Definitions only.
+-- Quarter turns of a sample and of a list, and what it means that one is the other turned k times. Definitions only.
 use Prim.Native.Nat.{ℕ, zero, suc}
 use mathlib.Core.List.{List, map}
 use lib.Ieee.{neg}
@@ -6,6 +6,7 @@ use Rattle.ieee.specs.Alike.{Alike}
 use Rattle.values.specs.declared.sample.C32.{C32}
 use Rattle.lists.specs.Each.{Each}
 
+-- Q1: one quarter turn, and k of them
 abbrev pub turn : C32 → C32
 turn z = record { re = neg (z .im); im = z .re }
 
@@ -17,12 +18,12 @@ turns (suc k) z = turn (turns k z)
 abbrev pub turnsAll : ℕ → List C32 → List C32
 turnsAll k l = map (turns k) l
 
--- equal as numbers in each part
+-- N10: alike in each part
 pub record AlikeSample (v z : C32) : Type 0 where
   pub real : Alike (v .re) (z .re)
   pub imag : Alike (v .im) (z .im)
 
--- v is z turned k times, as numbers
+-- Q8: v is z turned k times, as numbers (N10)
 abbrev pub Turned : ℕ → C32 → C32 → Type 0
 Turned k z v = AlikeSample v (turns k z)
 

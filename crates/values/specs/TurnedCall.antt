@@ -13,7 +13,8 @@ pub record Call : Type 0 where
   pub input : List Float
   pub output : List Float
 
--- "the same buffer lengths and each input turned k times; where a call is refused, only lengths must agree"; `taken` says which calls are not
+-- Q6: d is c with its input turned k times. `taken` says which calls are accepted;
+-- of another call only the lengths matter
 pub record TurnedCall (taken : Call → Bool) (k : ℕ) (c d : Call) : Type 0 where
   pub inputs : length (d .input) ≡ length (c .input)
   pub outputs : length (d .output) ≡ length (c .output)

@@ -3,7 +3,7 @@ use crate::progress::Answer;
 ghost use mathlib.Core.Path.{_≡_};
 ghost use Rattle.values.specs.Counts.{countsOf};
 
-// What a call answers: its number, 0 where it is done, and the two counts.
+// A2: what a call answers: its number, 0 where it is done, and the two counts.
 #[repr(C)]
 pub struct Counts {
     pub number: u32,
@@ -11,7 +11,7 @@ pub struct Counts {
     pub produced: usize,
 }
 
-// An answer as its number and counts.
+// K7: an answer as its number and counts.
 pub fn counts_of(answer: Answer) -> Counts
     ensures { λ r. ⌜ r ≡ countsOf answer ⌝ }
 {

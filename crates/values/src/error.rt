@@ -1,28 +1,29 @@
-// Why a call is refused: the words of document 01's table.
+// The refusals of a call and their numbers (E1 to E8).
 ghost use mathlib.Core.Path.{_≡_};
 ghost use Rattle.values.specs.Refusal.{numberOf};
 
+// Why a call is refused. An infinity and a NaN lie outside every range.
 pub enum Refusal {
-    // sps is not finite or not in 2 to 1,000,000.
+    // E1: the samples per symbol are outside 2 to 1,000,000.
     Pace,
-    // The loop bandwidth is not finite or not in its range.
+    // E2: the loop bandwidth is outside its range.
     Width,
-    // The damping is not finite or not in 0.1 to 4.
+    // E3: the damping is outside 0.1 to 4.
     Damping,
-    // The maximum deviation or offset is not finite or not in its range.
+    // E4: the maximum deviation or the maximum offset is outside its range.
     Pull,
-    // The detector gain is not finite or not above 0.
+    // E5: the detector gain is not above 0, or not finite.
     Slope,
-    // A timing gain comes out not finite.
+    // E6: kp or ki of a timing loop is not finite.
     Gains,
-    // Two buffers differ in length.
+    // E7: two buffers that must be equally long are not.
     Uneven,
-    // A complex buffer has an odd count of f32.
+    // E8: a complex buffer ends inside a sample.
     Odd,
 }
 
 impl Refusal {
-    // The number of document 01's table.
+    // A2: the number of the refusal.
     pub fn number(self) -> u32
         ensures { λ r. ⌜ r ≡ numberOf self ⌝ }
     {

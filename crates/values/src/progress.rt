@@ -10,7 +10,7 @@ pub struct Progress {
     pub produced: usize,
 }
 
-// The answer of a run: what it took and gave, or why it was refused.
+// A2: the answer of a run: its counts, or why it was refused.
 pub enum Answer {
     Done(Progress),
     Refused(Refusal),

@@ -1,8 +1,9 @@
-// Complex f32 sample, real part first in a lent slice of f32.
+// A complex sample of two f32, and how it lies in a slice.
 ghost use mathlib.Core.Path.{_≡_};
 ghost use lib.ListN.{getD};
 ghost use Rattle.values.specs.Samples.{silence, samples, stored};
 
+// A1: a complex sample.
 #[repr(C)]
 pub struct C32 {
     pub re: f32,

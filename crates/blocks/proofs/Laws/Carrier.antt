@@ -1,4 +1,5 @@
--- A run of the carrier on xs and then one on ys are one run on xs followed by ys, from any state; and so are two calls that are not refused. Assumes nothing.
+-- B2: a run of the carrier on xs and then one on ys are one run on xs followed by ys, from any state;
+-- and so are two calls that are not refused. Assumes nothing.
 use mathlib.Core.Path.{_≡_, refl, sym, ap, _∙_}
 use mathlib.Core.Bool.{true}
 use mathlib.Core.List.{List, [], _∷_, _++_}

@@ -1,4 +1,5 @@
--- The instants of strobes: k places on, they are k samples later; each symbol has one, its value is the one at it, and the first is where the state says. Assumes nothing.
+-- The instants of strobes (B6): k places on, they are k samples later; each symbol has one, its value is the one
+-- at it, and the first is where the state says. Assumes nothing.
 use mathlib.Core.Path.{_≡_, refl, sym, ap, _∙_}
 use mathlib.Core.Logic.{_⊎_, inl, inr}
 use mathlib.Core.Bool.{Bool, true, false, cond}

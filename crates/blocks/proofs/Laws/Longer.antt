@@ -1,4 +1,5 @@
--- More input behind what a timing run has: it takes the same strobes at the same clocks, and goes on from where it stopped. Over any sample type. Assumes nothing.
+-- More input behind what a timing run has: it takes the same strobes at the same clocks, and goes on from where
+-- it stopped. Over any sample type. Assumes nothing.
 use mathlib.Core.Path.{_≡_, refl, sym, ap, _∙_}
 use mathlib.Core.Bool.{Bool, true, false, cond}
 use mathlib.Core.List.{List, [], _∷_, _++_}

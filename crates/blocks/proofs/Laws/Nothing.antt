@@ -1,4 +1,5 @@
--- A timing run on nothing changes nothing and has no strobe, from any given state. Over any sample type. Assumes nothing.
+-- A timing run on nothing changes nothing and has no strobe, from any given state. Over any sample type.
+-- Assumes nothing.
 use mathlib.Core.Path.{_≡_, refl, ap, _∙_}
 use mathlib.Core.Bool.{Bool, true, false, not, _&&_, and-false}
 use mathlib.Core.List.{List, [], map}
@@ -18,7 +19,7 @@ module _ {A : Type 0} (o : Ops A) (s : Sync A) (given : Given s) where
   abbrev bare : List A
   bare = line (s .hist) []
 
-  -- nothing can be worked out
+  -- no value is available
   nothing-there : (i : ℕ) → 1 ≤ i → there bare i ≡ false
   nothing-there i h = le-ltb (i + 2) 3 (omega arith)
 

@@ -1,4 +1,5 @@
--- Each strobe moves a timing run on by a sample or more, so a run takes no more strobes than it has samples. Over any sample type. Assumes nothing.
+-- Each strobe moves a timing run on by a sample or more, so a run takes no more strobes than it has samples.
+-- Over any sample type. Assumes nothing.
 use mathlib.Core.Path.{_≡_, refl, subst}
 use mathlib.Core.Bool.{Bool, true, false, cond}
 use mathlib.Core.List.{List}

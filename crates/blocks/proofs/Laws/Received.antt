@@ -1,4 +1,5 @@
--- The receiver over a list of samples, as one run: an accepted call is such a run and a refused one leaves nothing heard; two runs in a row are one, and one on nothing changes nothing. Assumes nothing.
+-- The receiver over a list of samples, as one run: an accepted call is such a run and a refused one leaves nothing
+-- heard; two runs in a row are one, and one on nothing changes nothing. Assumes nothing.
 use mathlib.Core.Path.{_≡_, refl, sym, ap, ap₂, _∙_}
 use mathlib.Core.Bool.{true, false, cond}
 use mathlib.Core.List.{List, [], _∷_, _++_, map}
@@ -132,7 +133,7 @@ module _ (w : Waiting) (c : Call) (h : accepts (handed w c) (c .strobes) (c .out
   pub refused-waits : waitsAfter w c ≡ record { receiver = w .receiver; rest = handed w c }
   refused-waits = let e = refusal .1 in λ j. record { receiver = e j .receiver; rest = drop (2 * e j .consumed) (handed w c) }
 
--- silence first adds nothing
+-- instants counted from 0 samples earlier are the same
 not-later : (l : List Instant) → map (later 0) l ≡ l
 not-later [] = refl
 not-later (x ∷ l) = λ j. record { sample = +ℤ-idl (x .sample) j; part = x .part } ∷ not-later l j

@@ -1,4 +1,5 @@
--- How a recording is cut never shows: from any given receiver, all ways of cutting it into calls, after which nothing is left, give the same strobes, outputs, instants, counts and record. Assumes nothing.
+-- B3: how a recording is cut does not show: from any given receiver, all ways of cutting it into calls,
+-- after which nothing is left, give the same strobes, outputs, instants, counts and record. Assumes nothing.
 use mathlib.Core.Path.{_≡_, refl, sym, ap, ap₂, _∙_, subst}
 use mathlib.Core.Bool.{Bool, true, false}
 use mathlib.Core.List.{List, [], _∷_, _++_, map, append-assoc, append-nil}

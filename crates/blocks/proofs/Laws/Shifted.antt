@@ -1,4 +1,5 @@
--- A timing run from sample k of a list on, its clock k places back: it takes the same strobes, each k places back. So it does not show what is consumed between two runs. Over any sample type. Assumes nothing.
+-- A timing run from sample k of a list on, its clock k places back: it takes the same strobes, each k places back.
+-- So it does not show what is consumed between two runs. Over any sample type. Assumes nothing.
 use mathlib.Core.Path.{_≡_, refl, sym, ap, ap₂, _∙_}
 use mathlib.Core.Bool.{Bool, true, false, not, _&&_, cond}
 use mathlib.Core.List.{List, _∷_, map}

@@ -1,4 +1,6 @@
--- When nothing of a recording is left: where each call takes all that it is handed, which it does with more places than samples; and where what is left is handed again, as often as there are samples and once more. Assumes nothing.
+-- When nothing of a recording is left: where each call takes all that it is handed, which it does with more places
+-- than samples (B4); and where what is left is handed again, as often as there are samples and once more (B5).
+-- Assumes nothing.
 use mathlib.Core.Path.{_≡_, refl, sym, ap, _∙_, subst}
 use mathlib.Core.Logic.{_⊎_, inl, inr}
 use mathlib.Core.Bool.{true, not, _&&_}
@@ -185,7 +187,8 @@ again-records (suc n) zs ys = again-records n zs ys
 pub recorded-again : (cs : List Call) (n : ℕ) (zs ys : List Float) → recorded (cs ++ again n zs ys) ≡ recorded cs
 recorded-again cs n zs ys = recorded-append cs (again n zs ys) ∙ ap (λ (l : List Float). recorded cs ++ l) (again-records n zs ys) ∙ append-nil (recorded cs)
 
--- a recording of whole samples is taken, whatever places its calls have, if what they leave is handed again as often as it has samples and once more
+-- a recording of whole samples is taken, whatever places its calls have, if what they leave is handed again as often
+-- as it has samples and once more
 pub again-left : (r : Receiver) (cs : List Call) (zs ys : List Float) → Given r → APlace zs ys → length (recorded cs) % 2 ≡ 0 → left r (cs ++ again (oftenEnough cs) zs ys) ≡ []
 again-left r cs zs ys given lent even =
     let n = length (recorded cs) / 2 in

@@ -1,4 +1,5 @@
--- A timing run on xs, then one on what it did not consume followed by ys, is one run on xs followed by ys: values, count, state and instants. Over any sample type, from any given state. Assumes nothing.
+-- B1: a timing run on xs, then one on what it did not consume followed by ys, is one run on xs followed by ys:
+-- values, count, state and instants. Over any sample type, from any given state. Assumes nothing.
 use mathlib.Core.Path.{_≡_, refl, sym, ap, _∙_}
 use mathlib.Core.Bool.{Bool, true, false, cond}
 use mathlib.Core.List.{List, _∷_, _++_, map}

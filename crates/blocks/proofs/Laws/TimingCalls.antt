@@ -1,4 +1,5 @@
--- Two timing calls in a row on a recording cut in two are one call on the whole: on real samples always, on complex samples where the one call is not refused. From any given state. Assumes nothing.
+-- B1: two timing calls in a row on a recording cut in two are one call on the whole: on real samples always,
+-- on complex samples where the one call is not refused. From any given state. Assumes nothing.
 use mathlib.Core.Path.{_≡_, refl, sym, ap, ap₂, _∙_}
 use mathlib.Core.Bool.{Bool, true, false}
 use mathlib.Core.List.{List, _++_, append-assoc}

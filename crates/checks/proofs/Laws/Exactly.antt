@@ -1,4 +1,5 @@
--- The number of a set-up's answer is n exactly if a row with the number n is not passed and all before it are; it is 0 exactly if every row is passed. Of any answer that has the numbers of its refusals. Assumes nothing.
+-- The number of a set-up's answer is n exactly if a row with the number n is not passed and all before it are;
+-- it is 0 exactly if every row is passed. Of any answer that has the numbers of its refusals. Assumes nothing.
 use mathlib.Core.Path.{_≡_, refl, sym, ap, _∙_}
 use Prim.Native.Nat.{ℕ, _<_}
 use native.Mathlib.Omega.{arith}

@@ -1,5 +1,5 @@
--- Laws that hold of the floats as data, zeros' signs included: sums and products commute, and a sign goes through a product and a quotient.
--- Assumes nothing.
+-- Laws that hold of the floats as data, zeros' signs included: sums and products commute, and a sign goes through
+-- a product and a quotient. Assumes nothing.
 use mathlib.Core.Path.{_≡_, refl, ap}
 use Prim.Native.Nat.{ℕ, _-_, _*_}
 use native.Mathlib.Nat.{mul-comm, add-comm}

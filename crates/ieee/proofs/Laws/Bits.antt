@@ -1,4 +1,5 @@
--- A float by its bits: the value that the bits below the sign stand for, and what the sign adds. Every law is over the format. Assumes nothing.
+-- A float by its bits: the value that the bits below the sign stand for, and what the sign adds.
+-- Every law is over the format. Assumes nothing.
 use mathlib.Core.Path.{_≡_, refl, sym, ap, _∙_, subst}
 use mathlib.Core.Logic.{inl, inr}
 use Prim.Native.Nat.{ℕ, zero, suc, _+_, _-_, _*_, _/_, _%_, _^_, _≤_, _<_}

@@ -1,4 +1,5 @@
--- Comparisons and tests give the same answer at floats that are alike, and the turned-round one at their opposites. Assumes nothing.
+-- Comparisons and tests give the same answer at floats that are alike, and the turned-round one at their opposites.
+-- Assumes nothing.
 use mathlib.Core.Path.{_≡_, refl, sym, ap, _∙_}
 use Prim.Native.Nat.{ℕ, zero, suc, _*_, _<_}
 use native.Mathlib.Nat.{zero-mul, zero-add, add-comm, mul-pos}
@@ -220,7 +221,7 @@ like-finite {s} {x} {y} p = cc (finite-plain x, p .same, finite-plain (signed s 
 pub like-cond : {s p q : Bool} {x x' y y' : Float} → p ≡ q → Like s x x' → Like s y y' → Like s (cond p x y) (cond q x' y')
 like-cond {s} e h k = cond-related (Like s) e h k
 
--- ---- `Alike` says what document 01 says
+-- ---- `Alike` gives the test `sameNumber` (N10)
 own : (y : Float) → T (sameNumber y y)
 unfolding eq isNan
 own nan = tt

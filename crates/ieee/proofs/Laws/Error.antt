@@ -1,5 +1,6 @@
--- How far rounding moves a fraction: by half a unit in the last place at most, and by half of the format's smallest value where it is subnormal.
--- All distances are counted in halves of the format's smallest value: `halves f` of them are 1. Assumes nothing.
+-- How far rounding moves a fraction: by half a unit in the last place at most, and by half of the format's
+-- smallest value where it is subnormal. All distances are counted in halves of the format's smallest value:
+-- `halves f` of them are 1. Assumes nothing.
 use mathlib.Core.Path.{_≡_, refl, sym, ap, _∙_, subst}
 use mathlib.Core.Logic.{inl, inr}
 use Prim.Native.Nat.{ℕ, zero, suc, _+_, _-_, _*_, _/_, _%_, _^_, _≤_, _<_, compare, Ordering, Ordering·lt, Ordering·eq, Ordering·gt}
@@ -72,7 +73,8 @@ one-value (fin t m e) s a c b d h k = cancel (m * up e) (down e) (down-pos e) (h
         let t = ap (λ (w : ℕ). w * c) y in
         eq-of-mul-eq-mul-right v h (b * c) (a * d) (omega arith)
 
--- a fraction up to 2 ^ (prec + j): at the bound itself nothing is lost, and below it no more than j places are dropped
+-- a fraction up to 2 ^ (prec + j): at the bound itself nothing is lost, and below it no more
+-- than j places are dropped
 pub grid-near : (f : Format) (a c j : ℕ) → 0 < c → prec f + suc j ≤ low f + suc (emax f) → a * 2 ^ low f ≤ 2 ^ (prec f + j) * c
     → (grid f a c < overflow f) × (2 * (grid f a c * c) ≤ 2 * (a * 2 ^ low f) + 2 ^ j * c) × (2 * (a * 2 ^ low f) ≤ 2 * (grid f a c * c) + 2 ^ j * c)
 grid-near f a c j C J h =
@@ -126,8 +128,10 @@ put P N d p n c r G L D U e b v x y =
     let v' = simp products at (ap (λ (z : ℕ). z * c) v) in
     (rw (b, e) (simp products (omega arith)), rw (b, e) (simp products (omega arith)))
 
--- ---- one rounding of either sign: |q| ≤ 2 ^ (prec + j) of the smallest values, and z, which is q rounded once, is finite and within 2 ^ j halves of one.
--- So for |q| ≤ 2 ^ k the error is at most 2 ^ (k - prec - 1), half a unit in the last place, and never needs to be less than half of the smallest value (j = 0).
+-- ---- one rounding of either sign: |q| ≤ 2 ^ (prec + j) of the smallest values, and z, which is q rounded once,
+-- is finite and within 2 ^ j halves of one.
+-- So for |q| ≤ 2 ^ k the error is at most 2 ^ (k - prec - 1), half a unit in the last place, and never needs to be
+-- less than half of the smallest value (j = 0).
 pub rounds-near : (f : Format) (z : Float) (q : Fraction) (j : ℕ) → 0 < q .over → prec f + suc j ≤ low f + suc (emax f) → Within (2 ^ (prec f + suc j)) (halves f) q nothing
     → Rounds f z (q .plus) (q .less) (q .over) → T (finite z) × Within (2 ^ j) (halves f) (own z) q
 rounds-near f z q j C J s (high a e) =

@@ -1,5 +1,5 @@
--- A tie goes to the even one: from 2 ^ (prec - 1) up, a whole number that the format holds with a digit to spare is what all within a half of it rounds to.
--- Assumes nothing.
+-- A tie goes to the even one: from 2 ^ (prec - 1) up, a whole number that the format holds with a digit to spare
+-- is what all within a half of it rounds to. Assumes nothing.
 use mathlib.Core.Path.{_≡_, sym, ap, _∙_, subst}
 use Prim.Native.Nat.{ℕ, zero, suc, _+_, _-_, _*_, _/_, _%_, _^_, _≤_, _<_, compare, Ordering, Ordering·lt, Ordering·eq, Ordering·gt}
 use native.Mathlib.Nat.{le-of-eq, le-trans, lt-of-lt-of-le, not-le-of-lt, lt-of-not-le, mul-one, mul-comm, mul-assoc, mul-left-comm, mul-pos, pow-succ', mul-le-mul-right, mul-lt-mul-of-pos-right, lt-of-mul-lt-mul-right, div-add-mod', mod-lt, le-div-iff-mul-le}

@@ -1,5 +1,5 @@
--- Where nothing is lost: a fraction that the format holds is its own rounding, and so is the half of a value that is not too small, and 1 × x.
--- Assumes nothing.
+-- Where nothing is lost: a fraction that the format holds is its own rounding, and so is the half of a value
+-- that is not too small, and 1 × x. Assumes nothing.
 use mathlib.Core.Path.{_≡_, refl, sym, ap, _∙_, subst}
 use mathlib.Core.Logic.{_⊎_, inl, inr}
 use Prim.Native.Nat.{ℕ, zero, suc, _+_, _-_, _*_, _^_, _≤_, _<_}

@@ -1,5 +1,5 @@
--- A value that the format holds is no bound that rounding can cross: what lies at or above it before rounding does so after it.
--- Assumes nothing.
+-- Rounding keeps the order with a value that the format holds: what lies at or above it before rounding does so after
+-- it. Assumes nothing.
 use mathlib.Core.Path.{_≡_, refl, sym, ap, _∙_, subst}
 use Prim.Native.Nat.{ℕ, zero, suc, _+_, _-_, _*_, _^_, _≤_, _<_, _%_}
 use native.Mathlib.Nat.{pow-succ', mul-le-mul-right, mul-comm, mul-left-comm, le-trans, le-of-eq, le-of-suc-le-suc, not-le-of-lt, lt-of-not-le, zero-lt-suc, mul-one, mul-assoc, lt-of-mul-lt-mul-right, mul-lt-mul-of-pos-right, mul-pos}

@@ -30,7 +30,8 @@ plain-neg (inf s) = refl
 plain-neg (fin s zero e) = refl
 plain-neg (fin s (suc m) e) = refl
 
--- `mul`, `add` and `div` of two finite values, with `round` and `sum` kept shut: `unfolding mul` would open these too, and a rewritten goal fills pages
+-- `mul`, `add` and `div` of two finite values, with `round` and `sum` left folded: `unfolding mul` would unfold these
+-- too, and make a rewritten goal very long
 pub mul-fin : (f : Format) (s t : Bool) (m n : ℕ) (e d : ℤ) → mul f (fin s m e) (fin t n d) ≡ round f (unlike s t) (m * up e * (n * up d)) (down e * down d)
 unfolding mul
 mul-fin f s t m n e d = refl
@@ -135,7 +136,7 @@ unfolding signed
 add-signed f true x y = plain-odd f x y
 add-signed f false x y = refl
 
--- ---- quotients, in the numerator: a denominator's zero shows its sign
+-- ---- quotients, in the numerator: in the denominator a zero's sign matters
 -- a zero over y
 over : Float → Float
 over nan = nan

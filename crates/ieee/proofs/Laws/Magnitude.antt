@@ -1,4 +1,5 @@
--- A magnitude is below t exactly if the value lies between -t and t; and it forgets a sign. Assumes nothing.
+-- A magnitude is below t exactly if the value lies between -t and t; and it does not depend on the sign.
+-- Assumes nothing.
 use mathlib.Core.Path.{_≡_, refl, sym, ap, _∙_}
 use Prim.Native.Nat.{ℕ, zero, suc, _+_, _*_, _<_}
 use native.Mathlib.Nat.{mul-lt-mul-of-pos-right}

@@ -1,4 +1,5 @@
--- A float that differs from itself is a NaN, and no other is; a pattern above infinity's is a NaN's, and no other is. Assumes nothing.
+-- A float that differs from itself is a NaN, and no other is; a pattern above infinity's is a NaN's, and no other is.
+-- Assumes nothing.
 use mathlib.Core.Path.{_≡_, refl, sym, _∙_, subst}
 use mathlib.Core.Bool.{Bool, true, false, not}
 use Prim.Native.Nat.{ℕ, _*_, _%_, _<_, _≤_}

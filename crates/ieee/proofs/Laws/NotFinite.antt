@@ -1,5 +1,6 @@
--- A sum, a difference or a product that is finite has finite terms, and a quotient of two values that are not finite is NaN.
--- And lower bounds of the terms give one of the result, so that a result whose bound overflows is not finite. Assumes nothing.
+-- A sum, a difference or a product that is finite has finite terms, and a quotient of two values that are not finite
+-- is NaN. And lower bounds of the terms give one of the result, so that a result whose bound overflows is not finite.
+-- Assumes nothing.
 use mathlib.Core.Path.{_≡_, refl, subst}
 use Prim.Native.Nat.{ℕ}
 use native.Mathlib.Omega.{arith}

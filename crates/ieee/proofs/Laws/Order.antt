@@ -1,5 +1,5 @@
--- The order of finite values as an order of their fractions (plus - less) / den: one shape serves both signs and both zeros, so that a law about the order is a linear fact over ℕ.
--- Assumes nothing.
+-- The order of finite values as an order of their fractions (plus - less) / den: one shape serves both signs and both
+-- zeros, so that a law about the order is a linear fact over ℕ. Assumes nothing.
 use mathlib.Core.Path.{_≡_, refl, sym, ap, subst}
 use mathlib.Core.Logic.{_⊎_, inl, inr}
 use Prim.Native.Nat.{ℕ, _+_, _-_, _*_, _^_, _≤_, _<_}

@@ -1,4 +1,5 @@
--- `round` and the sign: the sign is only copied, a zero stays one, and what has no minus sign gets none. Assumes nothing.
+-- `round` and the sign: the sign is only copied, a zero stays one, and what has no minus sign gets none.
+-- Assumes nothing.
 use mathlib.Core.Path.{_≡_, refl, ap, _∙_}
 use Prim.Native.Nat.{ℕ, zero, suc, _+_, _*_, _^_, _<_}
 use native.Mathlib.Nat.{zero-mul}

@@ -1,5 +1,5 @@
--- A float that is a fraction rounded once: rounding keeps the order, and a sum, a product and a quotient each round one exact fraction.
--- Assumes nothing.
+-- A float that is a fraction rounded once: rounding keeps the order, and a sum, a product and a quotient each round
+-- one exact fraction. Assumes nothing.
 use mathlib.Core.Path.{_≡_, sym, ap, _∙_, subst}
 use Prim.Native.Nat.{ℕ, _+_, _-_, _*_, _≤_, _<_}
 use native.Mathlib.Nat.{lt-irrefl, le-of-eq, le-antisymm, add-mul, mul-le-mul-right, le-of-mul-le-mul-right, mul-pos}

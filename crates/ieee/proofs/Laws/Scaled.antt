@@ -1,4 +1,5 @@
--- 2 ^ k times a value that the format holds is exact, unless it overflows; so (2 ^ k * x) * y is (2 ^ k * y) * x, to the last bit. Assumes nothing.
+-- 2 ^ k times a value that the format holds is exact, unless it overflows; so (2 ^ k * x) * y is (2 ^ k * y) * x,
+-- to the last bit. Assumes nothing.
 use mathlib.Core.Path.{_≡_, refl, sym, ap, _∙_}
 use Prim.Native.Nat.{ℕ, suc, _+_, _-_, _*_, _^_, _<_, _≤_}
 use native.Mathlib.Nat.{zero-add, add-zero, mul-comm, mul-left-comm, mul-assoc, mul-one, one-mul, mul-pos, mul-mul-mul-comm, mul-lt-mul-of-pos-right, lt-of-mul-lt-mul-right}

@@ -1,4 +1,5 @@
--- Values between two bounds, the lower one not below 0: the operations take bounds to bounds, so that a formula is finite where the same formula of the bounds is. Assumes nothing.
+-- Values between two bounds, the lower one not below 0: the operations take bounds to bounds, so that a formula
+-- is finite where the same formula of the bounds is. Assumes nothing.
 use mathlib.Core.Path.{_≡_, refl}
 use Prim.Native.Nat.{ℕ, _+_, _*_, _<_}
 use native.Mathlib.Nat.{zero-lt-suc, zero-mul, add-zero, mul-pos}

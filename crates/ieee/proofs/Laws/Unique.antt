@@ -1,5 +1,5 @@
--- A format writes each number in one way: two values that it holds and that are equal as numbers are the same data, to a zero's sign.
--- So `Alike` is document 01's "equal as numbers, zeros alike, or if both are NaN". Assumes nothing.
+-- A format writes each number in one way: two values that it holds and that are equal as numbers are the same data,
+-- to a zero's sign. So the test `sameNumber` gives `Alike` (N10). Assumes nothing.
 use mathlib.Core.Path.{_≡_, refl, sym, ap, _∙_, subst}
 use mathlib.Core.Logic.{_≢_, _⊎_, inl, inr}
 use Prim.Native.Nat.{ℕ, zero, suc, _+_, _-_, _*_, _/_, _^_, _<_}

@@ -1,4 +1,6 @@
--- What a caller of an entry over a lent state (`Entry.antt`) is, `let mut lent = s; let answer = entry(&mut lent, input, output); Ran { answer, state: lent }`: what it makes of the answer and the state, and its code. Definitions. Assumes nothing.
+-- What a caller of an entry over a lent state (`Entry.antt`) is, `let mut lent = s; let answer = entry(&mut lent,
+-- input, output); Ran { answer, state: lent }`: what it makes of the answer and the state, and its code. Definitions.
+-- Assumes nothing.
 use mathlib.Core.Path.{_≡_}
 use Prim.Native.Nat.{ℕ, suc}
 use mathlib.Core.List.{[], _∷_, List}
@@ -24,7 +26,8 @@ module _ {n : ℕ} (E : Entry n) (B : Caller E) where
   abbrev pub inTy : Ty
   inTy = sliceTy (tyRef (named 0) imm (tyFloat binary32))
 
-  -- the types of what is returned and of the parameters; of the state that is lent, the answer, the reference and the outputs as they are lent on
+  -- the types of what is returned and of the parameters; of the state that is lent, the answer,
+  -- the reference and the outputs as they are lent on
   abbrev pub before : List Ty
   before = ranTy E ∷ E .state .ty ∷ inTy ∷ outTys 1 n
 

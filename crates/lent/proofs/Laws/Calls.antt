@@ -1,4 +1,5 @@
--- A caller of an entry over a lent state (`Caller.antt`) meets the contract of `run`, where the entry meets its own: a walk of the MIR, by hand. Assumes nothing.
+-- A caller of an entry over a lent state (`Caller.antt`) meets the contract of `run`, where the entry meets its own:
+-- a walk of the MIR, by hand. Assumes nothing.
 use mathlib.Core.Path.{_≡_, refl, sym, ap, subst}
 use Prim.Native.Nat.{ℕ, suc}
 use mathlib.Core.List.{[], _∷_, List}
@@ -216,7 +217,8 @@ module _ {n : ℕ} (E : Entry n) (B : Caller E) where
               at-past 𝓤 H (before E B) (l₀, (l₁, (l₂, ls))) rest (past (after E B) 0) (E .state .ty ∷ []) (l₆, tt)
               (at-past 𝓤 H (after E B) (l₃, (l₄, (l₅, ms))) ((E .state .ty, l₆) ∷ []) 0 (E .state .ty ∷ []) (l₆, tt) (at-first 𝓤 H (E .state .ty ∷ []) (l₆, tt) []))
 
-          -- [the state's cell 0; the tokens; the last lists; the outputs 3; the same lent on 4; the copy 5; the reference 7; the answer 9; what frees the state 11; _2 12; _1 14; _0 16; what input owns 18]
+          -- [the state's cell 0; the tokens; the last lists; the outputs 3; the same lent on 4; the copy 5;
+          -- the reference 7; the answer 9; what frees the state 11; _2 12; _1 14; _0 16; what input owns 18]
           abbrev Back : Value (E .answer) → State E → Lists n → List (Item 𝓤)
           Back r s ys =
               ‵ (fat fullShare (E .state .ty) l₃ 0 (mach s)) ∷ Tokens ∷ ‵ (Last n xs ys) ∷ cells (outTys 1 n) ls (outVals 1 n xs) ∷ cells (onTys n) ms (onVals n xs) ∷
@@ -254,7 +256,8 @@ module _ {n : ℕ} (E : Entry n) (B : Caller E) where
               pass1 ! (init ! 12 refl (E .state .laws .lawful 𝓤 H A W .typed _ _ was .0)) $
               pass1 ! (init ! 10 refl (shr-slice-lawful 𝓤 H A W (named 0) (κs .0) f32 .typed x (slice x ∷ []) p .0)) $
               move ! (9 ∷ []) $ pass-all ! (rest l₀ l₁ l₂ ls l₃ l₄ l₅ ms l₆) 1 n (O .theirs κs) ls xs are $
-              -- [the outputs; the copy 1; the same lent on 3; the reference 4; the answer 6; the state 8; _2 10; _1 12; _0 14; what input owns 16, 17; what the outputs own 18; the tokens 19]
+              -- [the outputs; the copy 1; the same lent on 3; the reference 4; the answer 6; the state 8; _2 10;
+              -- _1 12; _0 14; what input owns 16, 17; what the outputs own 18; the tokens 19]
               -- the state is copied, its address taken, and the outputs lent on
               assigns ! (of-opd ! (load ! (from ! (stop !)) (look ! 12 refl))) (found-at ! (ats .0) (stop !)) (init ! 8 refl (E .state .laws .lawful 𝓤 H A W .typed _ _ was .0)) $
               assigns ! (addr ! (found-at ! (ats .0) (stop !))) (found-at ! (ats .1 .1 .0) (stop !)) (init ! 4 refl (tt, tt)) $
@@ -281,7 +284,8 @@ module _ {n : ℕ} (E : Entry n) (B : Caller E) where
               heard ! (Ensured α l₃ γ r (zs .0) (zs .1 .1)) (λ came. heard ! (E .Again (zs .0)) (λ again.
               fsplit ! $ move ! (1 ∷ []) $ fsplit ! $ drop ! $ rewrite ! 0 (λ (F : Fml). ‵ F) (said-is n O′ (λs α l₃ γ) xs (zs .1 .1)) refl $
               hears ! n xs (told α l₃ γ (zs .1 .1)) (λ long.
-              -- [the last lists; the state's last value; the tokens and the answer; the lender's part; the outputs; …]
+              -- [the last lists; the state's last value; the tokens and the answer;
+              -- the lender's part; the outputs; …]
               move ! (2 ∷ []) $ split ! $ move ! (1 ∷ []) $ facts ! N (Is N) (shows 𝓤 H A N) r (v ∷ []) (λ is.
               land ! (found-at ! (ats .1 .0) (stop !)) (init ! 10 refl (E .answer .laws .lawful 𝓤 H A W .typed _ _ is .0)) $
               let told-is = E .answer .laws .tells (E .answer .type .into r) _ is in
@@ -334,7 +338,8 @@ module _ {n : ℕ} (E : Entry n) (B : Caller E) where
     ),
   )
 
-  -- a routine whose code is the caller's meets the contract of `run`, where the routine that it calls meets the entry's
+  -- a routine whose code is the caller's meets the contract of `run`, where the routine
+  -- that it calls meets the entry's
   pub caller-meets : {M : Type 1} (𝓤 : URA M) (H : Heap 𝓤) (𝓜 : Model 𝓤 H) (𝓖 : GhostRules 𝓤 H) (𝓡 : Running 𝓤 H 𝓜)
       (env : Routines) (key : Name) (code : Fn) → code ≡ function E B → Closed 𝓤 H (tables 𝓤 H 𝓜 𝓡 env .C) (tables 𝓤 H 𝓜 𝓡 env .Λ) key code
       → (entry : Routine) → env (B .callee) ≡ entry → Meets 𝓤 H (𝓖 .A) (ended E .signature) (𝓡 .run entry) (closing 𝓤 H (𝓖 .A) (ended E) (clauses E 𝓤))

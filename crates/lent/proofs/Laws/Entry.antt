@@ -1,4 +1,6 @@
--- What an entry over a lent state is, `let ran = run(*s, input, output); *s = ran.state; ran.answer`: the types in it, its code, and the contracts of it and of `run`, with any number of lent outputs. Definitions. Assumes nothing.
+-- F9: what an entry over a lent state is, `let ran = run(*s, input, output); *s = ran.state; ran.answer`:
+-- the types in it, its code, and the contracts of it and of `run`, with any number of lent outputs. Definitions.
+-- Assumes nothing.
 use mathlib.Core.Path.{_≡_}
 use Prim.Native.Nat.{ℕ, zero, suc}
 use mathlib.Core.Bool.{Bool, false, _||_, cond}
@@ -92,17 +94,20 @@ pub record Entry (n : ℕ) : Type 2 where
   pub back : Bool
   -- what both require of the state
   pub Needs : Value state → Type 0
-  -- what `run` ensures: of its result and the outputs at exit, over the state, the input and the outputs at entry; and of its result
+  -- what `run` ensures: of its result and the outputs at exit, over the state, the input and the outputs
+  -- at entry; and of its result
   pub RanOutcome : Ran → Lists n → Value state → List Float → Lists n → Type 0
   pub RanAgain : Ran → Type 0
-  -- what the entry ensures: of its answer, the state and the outputs at exit, over state, input and outputs at entry; and of the state at exit
+  -- what the entry ensures: of its answer, the state and the outputs at exit, over state, input and outputs
+  -- at entry; and of the state at exit
   pub Outcome : Value answer → Value state → Lists n → Value state → List Float → Lists n → Type 0
   pub Again : Value state → Type 0
   -- the one gives the other
   pub outcome : (r : Ran) (ys : Lists n) (s₀ : Value state) (xs₀ : List Float) (ys₀ : Lists n) → RanOutcome r ys s₀ xs₀ ys₀ → Outcome (ran-answer r) (cond back (ran-state r) s₀) ys s₀ xs₀ ys₀
   pub again : (r : Ran) (s₀ : Value state) → RanAgain r → Again (cond back (ran-state r) s₀)
 
--- whether a body stores to its first parameter or to what that refers to: an entry reads `back` off its own code, so that one which forgets the state fails `outcome`
+-- whether a body stores to its first parameter or to what that refers to.
+-- `back` of an entry follows from its code by this, so that an entry that does not store the state fails `outcome`
 abbrev pub writes-back : Body → Bool
 writes-back skip = false
 writes-back (seq s t) = writes-back s || writes-back t
@@ -184,7 +189,8 @@ module _ {n : ℕ} (E : Entry n) where
   abbrev pub ranTy : Ty
   ranTy = tyStruct (E .ran-name) (tcons (E .answer .ty) (tcons (E .state .ty) tnil))
 
-  -- the types of the answer and the parameters; of what `run` returned, the state, and the outputs as they are lent on
+  -- the types of the answer and the parameters; of what `run` returned, the state,
+  -- and the outputs as they are lent on
   abbrev pub before : List Ty
   before = E .answer .ty ∷ sTy ∷ inTy ∷ outTys 2 n
 
@@ -217,7 +223,8 @@ module _ {n : ℕ} (E : Entry n) where
   }
 
 -- ---- the contracts
--- where n lent outputs stand in a signature: its number of lifetimes, the number of the first output's, and theirs among those that the caller chose
+-- where n lent outputs stand in a signature: its number of lifetimes, the number of the first output's,
+-- and theirs among those that the caller chose
 pub record Stand (n : ℕ) : Type 0 where
   pub lifetimes : ℕ
   pub first : ℕ

@@ -1,4 +1,5 @@
--- The entry over a state that the caller lends (`Entry.antt`), with any number of lent outputs, meets its contract, where `run` meets its own: a walk of the MIR, by hand. Assumes nothing.
+-- The entry over a state that the caller lends (`Entry.antt`), with any number of lent outputs, meets its contract,
+-- where `run` meets its own: a walk of the MIR, by hand. Assumes nothing.
 use mathlib.Core.Path.{_≡_, refl, sym, ap, subst}
 use mathlib.Core.Bool.{Bool, true, false, cond}
 use Prim.Native.Nat.{ℕ, suc}
@@ -109,7 +110,7 @@ module _ {n : ℕ} (E : Entry n) where
     abbrev vs : Vals (ended E .signature) κs
     vs = (vptr b o ∷ [], (slice x ∷ [], vals n O κs xs))
 
-    -- the state's machine value, which stays a name: nothing here turns on the state's fields
+    -- the state's machine value, which stays a name: nothing here depends on the state's fields
     abbrev mach : State E → Val
     mach s = val (E .state) s
 
@@ -180,7 +181,8 @@ module _ {n : ℕ} (E : Entry n) where
         move ! (1 ∷ 0 ∷ []) $ done !
 
     module _ (C : Calls 𝓤 H) (Λ : Loops 𝓤 H) where
-      -- ---- `ran.answer`, from a state s behind the reference: the answer is copied out, the borrow closed at s, and the locals freed
+      -- ---- `ran.answer`, from a state s behind the reference: the answer is copied out, the borrow closed
+      -- at s, and the locals freed
       module _ (l₀ l₁ l₂ : ℕ) (ls : Along ℕ (outTys 2 n)) (l₃ l₄ : ℕ) (ms : Along ℕ (onTys n)) where
         abbrev rest : Env 𝓤 H
         rest = envOf (after E) (l₃, (l₄, ms)) []
@@ -194,7 +196,8 @@ module _ {n : ℕ} (E : Entry n) where
         after-at : At 𝓤 H env (ran E) (after E) (l₃, (l₄, ms))
         after-at = at-past 𝓤 H (before E) (l₀, (l₁, (l₂, ls))) rest 0 (after E) (l₃, (l₄, ms)) (at-first 𝓤 H (after E) (l₃, (l₄, ms)) [])
 
-        -- [the tokens; the last lists; the outputs 2; the same lent on 3; the state's cell 4; the open borrow 5; obs 6; auth 7; the state 8; ran 10; _2 12; _1 14; _0 16; what input owns 18]
+        -- [the tokens; the last lists; the outputs 2; the same lent on 3; the state's cell 4; the open borrow 5;
+        -- obs 6; auth 7; the state 8; ran 10; _2 12; _1 14; _0 16; what input owns 18]
         abbrev Called : E .Ran → Lists n → State E → List (Item 𝓤)
         Called r ys s =
             Tokens ∷ ‵ (Last n xs ys) ∷ cells (outTys 2 n) ls (outVals 2 n xs) ∷ cells (onTys n) ms (onVals n xs) ∷ ‵ (fat fullShare (rawTy (E .state .ty)) b o (mach s)) ∷
@@ -209,7 +212,8 @@ module _ {n : ℕ} (E : Entry n) where
             assigns ! (of-opd ! (load ! (found-at ! (after-at .0) (fld ! refl (stop !))) (look-in ! 10 (sub ! 0 refl (whole !))))) (from ! (stop !))
             (init ! 16 refl (E .answer .laws .lawful 𝓤 H A W .typed _ _ (answer-is E r v is) .0)) $
             pureI ! (T .own s (mach s ∷ [])) (E .state .is-plain _ _) s-is $ move ! (5 ∷ 0 ∷ 6 ∷ 7 ∷ 8 ∷ []) $ closes ! tt T s (mach s ∷ []) b o $
-            -- [obs; the borrow; its token; the other tokens; the last lists; the outputs 5; the same lent on 6; the state 7; ran 9; _2 11; _1 13; _0 15; what input owns 17]
+            -- [obs; the borrow; its token; the other tokens; the last lists; the outputs 5; the same lent on 6;
+            -- the state 7; ran 9; _2 11; _1 13; _0 15; what input owns 17]
             returns ! (look ! 15 refl) $ move ! (15 ∷ 16 ∷ []) $ frees1 ! $ move ! (13 ∷ 14 ∷ []) $ frees1 ! $ move ! (11 ∷ 12 ∷ []) $ frees1 ! $
             move ! (5 ∷ []) $ frees-all ! rest (outTys 2 n) ls (outVals 2 n xs) $ move ! (8 ∷ 9 ∷ []) $ frees1 ! $ move ! (6 ∷ 7 ∷ []) $ frees1 ! $
             move ! (5 ∷ []) $ frees-all ! [] (onTys n) ms (onVals n xs) $ free0 ! $ by ! (exits r v ys s is met long)
@@ -236,7 +240,9 @@ module _ {n : ℕ} (E : Entry n) where
             move ! (12 ∷ 13 ∷ 14 ∷ []) $ opens ! tt T {h = h} b o (λ us.
             spelt ! T (Is T) (shows 𝓤 H A T) (λ s. mach s ∷ []) (λ s. E .state .laws .tells (E .state .type .into s)) fullShare h us b o $
             move ! (1 ∷ []) $ peeks ! T (Is T) (shows 𝓤 H A T) h (mach h ∷ []) (λ was. move ! (1 ∷ 0 ∷ []) $
-            -- [the state's cell; what it owns; the open borrow; obs; auth; the outputs 5; the same lent on 6; the state 7; ran 9; _2 11; _1 13; _0 15; what input owns 17, 18; what the outputs own 19; the other tokens 20]
+            -- [the state's cell; what it owns; the open borrow; obs; auth; the outputs 5;
+            -- the same lent on 6; the state 7; ran 9; _2 11; _1 13; _0 15; what input owns 17, 18;
+            -- what the outputs own 19; the other tokens 20]
             -- `*s` is copied out, and the outputs lent on
             assigns ! (of-opd ! (load ! (from ! (hop ! (look ! 13 refl) (stop !))) (look-raw ! 0 refl))) (found-at ! (ats .1 .0) (stop !))
             (init ! 7 refl (E .state .laws .lawful 𝓤 H A W .typed _ _ was .0)) $

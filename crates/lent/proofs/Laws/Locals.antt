@@ -1,4 +1,5 @@
--- Steps of a walk for groups of locals of any number: they are allocated, passed, lent on, loaded and freed. A group is one entry of the context. Assumes nothing.
+-- Steps of a walk for groups of locals of any number: they are allocated, passed, lent on, loaded and freed.
+-- A group is one entry of the context. Assumes nothing.
 use mathlib.Core.Path.{_≡_, refl, sym, ap, subst}
 use Prim.Native.Nat.{ℕ, zero, suc}
 use mathlib.Core.List.{[], _∷_, List}

@@ -1,4 +1,5 @@
--- What a contract says of n lent outputs, whatever their numbers in the signature: their machine values, what they own, and their last lists, each over the references alone. Assumes nothing.
+-- What a contract says of n lent outputs, whatever their numbers in the signature: their machine values,
+-- what they own, and their last lists, each over the references alone. Assumes nothing.
 use mathlib.Core.Path.{_≡_, refl, ap}
 use Prim.Native.Nat.{ℕ, zero, suc}
 use mathlib.Core.List.{[], _∷_, List}

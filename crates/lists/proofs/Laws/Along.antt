@@ -1,5 +1,5 @@
--- A test of two lists, walked side by side, and what it says of the entries at one place; and the entries of a list that is thinned or reversed.
--- Holds for any lists. Assumes nothing.
+-- A test of two lists, walked side by side, and what it says of the entries at one place;
+-- and the entries of a list that is thinned or reversed. Holds for any lists. Assumes nothing.
 use mathlib.Core.Path.{_≡_, refl, subst}
 use mathlib.Core.Bool.{Bool, true, _&&_}
 use mathlib.Core.List.{List, [], _∷_, reverse, reverseAux}

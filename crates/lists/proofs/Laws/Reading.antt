@@ -1,4 +1,5 @@
--- The entry of a list at an index: inside it what is read outside does not matter, an entry past k others, one entry more. Assumes nothing.
+-- The entry of a list at an index: inside it what is read outside does not matter, an entry past k others,
+-- one entry more. Assumes nothing.
 use mathlib.Core.Path.{_≡_, sym, ap, _∙_}
 use mathlib.Core.List.{List, [], _∷_, _++_}
 use Prim.Native.Nat.{ℕ, _+_, _<_}

@@ -1,5 +1,5 @@
--- Floor by rounding: for |x| < 2^52, 2^52 added to x and taken off again leaves a whole number beside x, and from that one the floor is a comparison away.
--- Assumes nothing.
+-- Floor by rounding: for |x| < 2^52, 2^52 added to x and taken off again leaves a whole number beside x,
+-- and from that one the floor is a comparison away. Assumes nothing.
 use mathlib.Core.Path.{_≡_, refl, sym, ap, _∙_, subst}
 use mathlib.Core.Logic.{_⊎_, inl, inr}
 use Prim.Native.Nat.{ℕ, suc, _+_, _*_, _^_, _≤_, _<_}
@@ -35,7 +35,8 @@ around x g = add binary64 (add binary64 x g) (neg g)
 abbrev pub Out : ℕ → ℕ → Type 0
 Out a b = (2 ^ 52 + b ≤ a) ⊎ (a + 1 + 2 ^ 52 ≤ b)
 
--- z is (p - n) / c rounded, which lies from a - b up to a - b + u, for a u of 0 or 1. Where these are 2^52 or more in size, z is the one or the other.
+-- z is (p - n) / c rounded, which lies from a - b up to a - b + u, for a u of 0 or 1.
+-- Where these are 2^52 or more in size, z is the one or the other.
 pub lands : (z : Float) (p n c a b u : ℕ) → 0 < c → T (fits binary64 z) → Rounds binary64 z p n c → u ≤ 1 → a * c + n ≤ p + b * c → p + b * c ≤ (a + u) * c + n
     → Out a b → a < b + 2 ^ 53 → b ≤ a + 2 ^ 53 → Val z a b 1 ⊎ ((u ≡ 1) × Val z (suc a) b 1)
 lands z p n c a b u C t r U h k out top low =

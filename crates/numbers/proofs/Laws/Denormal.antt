@@ -1,4 +1,5 @@
--- Flushing gives 0 or the value itself, so that it keeps a value finite, or a number, and within limits around 0, and floats alike up to a sign so; and the code's two comparisons are the magnitude's one.
+-- Flushing gives 0 or the value itself, so that it keeps a value finite, or a number, and within limits around 0,
+-- and floats alike up to a sign so; and the code's two comparisons are the magnitude's one.
 -- Each law once, for both formats. Assumes nothing.
 use mathlib.Core.Path.{_≡_, refl, sym, ap, _∙_, subst}
 use mathlib.Core.Logic.{_⊎_, inl, inr}

@@ -1,4 +1,5 @@
--- Narrowing to an f32, of values: it sees only the number, keeps the sign and the order, and changes nothing that an f32 holds. Assumes nothing.
+-- Narrowing to an f32, of values: it depends only on the number, keeps the sign and the order, and changes nothing
+-- that an f32 holds. Assumes nothing.
 use mathlib.Core.Path.{_≡_, refl, sym, ap, _∙_, subst}
 use Prim.Native.Nat.{ℕ, zero, suc, _*_, _<_}
 use native.Mathlib.Nat.{zero-mul}

@@ -1,5 +1,5 @@
--- What is left of x over its floor: for x from 0 up the difference is exact and lies in 0 up to but not 1; below zero it is rounded and lies in 0 to 1, both included.
--- Assumes nothing.
+-- What is left of x over its floor: for x from 0 up the difference is exact and lies from 0 to below 1;
+-- below zero it is rounded and lies in 0 to 1, both included. Assumes nothing.
 use mathlib.Core.Path.{_≡_, refl, sym, ap, subst}
 use mathlib.Core.Logic.{inr}
 use Prim.Native.Nat.{ℕ, suc, _+_, _-_, _*_, _/_, _%_, _^_, _≤_, _<_}

@@ -1,5 +1,5 @@
--- An f64's digits as an f32: which places are shifted out, by the exponent's field, and that the field and the digits left add up to the f32's bits, a carry included.
--- Assumes nothing.
+-- An f64's digits as an f32: which places are shifted out, by the exponent's field, and that the field and the digits
+-- left add up to the f32's bits, a carry included. Assumes nothing.
 use mathlib.Core.Path.{_≡_, refl, sym, ap, _∙_, subst}
 use mathlib.Core.Logic.{inl, inr}
 use Prim.Native.Nat.{ℕ, suc, _+_, _-_, _*_, _/_, _%_, _^_, _≤_, _<_, zero-le, compare}
@@ -20,7 +20,8 @@ use Rattle.ieee.proofs.Laws.Unique.{value-unique}
 use Rattle.ieee.proofs.Laws.Bits.{low-value, normal-value, infinite-bits}
 use Rattle.numbers.proofs.Laws.Narrowing.{narrow-value}
 
--- ---- D * 2 ^ x / 2 ^ 1074 rounded: p places are shifted out of D, and the last one kept stands for 2 ^ k of the smallest f32
+-- ---- D * 2 ^ x / 2 ^ 1074 rounded: p places are shifted out of D, and the last one kept stands for
+-- 2 ^ k of the smallest f32
 round-places : (D x p k : ℕ) → 1074 + k ≡ x + 149 + p → size (D * 2 ^ (x + 149) / 2 ^ 1074) - 24 ≡ k → round binary32 false (D * 2 ^ x) (2 ^ 1074) ≡ units binary32 false (closest D (2 ^ p)) k
 round-places D x p k b d =
     let n = D * 2 ^ x * 2 ^ 149 in
@@ -54,7 +55,8 @@ round-low D x hi h = round-places D x (925 - x) 0 (omega arith) (few (size (D * 
     under : D * 2 ^ (x + 149) < 2 ^ 24 * 2 ^ 1074
     under = lt-of-lt-of-le (mul-lt-mul-of-pos-right hi (pow-pos (x + 149))) (le-trans (le-of-eq (sym (pow-add 2 53 (x + 149)))) (le-trans (pow-mono {i = 53 + (x + 149)} {j = 24 + 1074} (omega arith)) (le-of-eq (pow-add 2 24 1074))))
 
--- ---- the bits of q * 2 ^ k of the smallest f32, for a q of 24 digits, or one more after a carry, or fewer where k is 0
+-- ---- the bits of q * 2 ^ k of the smallest f32, for a q of 24 digits, or one more after
+-- a carry, or fewer where k is 0
 module _ (v : Float) (q k : ℕ) (held : T (fits binary32 v)) (is : v ≡ units binary32 false q k) where
   -- v is the number that the bits b stand for
   from-value : (b a : ℕ) → HasValue (ofBits binary32 b) false a (2 ^ 149) → a ≡ q * 2 ^ k → q * 2 ^ k < 2 ^ 277 → ofBits binary32 b ≡ v

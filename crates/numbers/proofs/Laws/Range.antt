@@ -1,4 +1,5 @@
--- A limited value lies within its limits, is what the source's `max` and `min` give, in either order, is x itself where x lies within, and depends only on the numbers; and x - x tells whether x is finite.
+-- A limited value lies within its limits, is what the original's `max` and `min` give, in either order,
+-- is x itself where x lies within, and depends only on the numbers; and x - x tells whether x is finite.
 -- Each law once, for both formats. Assumes nothing.
 use mathlib.Core.Path.{_≡_, refl, sym, ap, subst}
 use Prim.Native.Nat.{ℕ, _+_, _*_, _<_}
@@ -51,7 +52,7 @@ limit-finite x l p q z = let h = limit-in x l p q z in between (neg l) (limited 
 pub limit-inside : (x l : Float) → T (le (neg l) x) → T (le x l) → limited x l ≡ x
 limit-inside x l h k = sym (limit-none x l (le→not-lt (neg l) x h) (le→not-lt x l k))
 
--- for a number x this is the source's `x.max(-l).min(l)`, zeros' signs included
+-- for a number x this is the original's `x.max(-l).min(l)`, zeros' signs included
 pub limit-max-min : (x l : Float) → T (finite l) → T (le zero₀ l) → limited x l ≡ smaller (greater x (neg l)) l
 unfolding limited
 limit-max-min x l q z = go (lt x (neg l))
@@ -75,7 +76,7 @@ high-not-low (fin s m e) l q z h =
     let x = fin s m e in
     le→not-lt (neg l) x (le-trans-float (neg l) l x (minus-le l q z) (lt→le l x (yes h)))
 
--- and the source's `clamp_f32`, which takes the upper end first
+-- and the original's `clamp_f32`, which takes the upper end first
 pub limit-min-max : (x l : Float) → T (finite l) → T (le zero₀ l) → limited x l ≡ greater (smaller x l) (neg l)
 unfolding limited
 limit-min-max x l q z = go (lt l x) (high-not-low x l q z)

@@ -1,4 +1,5 @@
--- Shifting places out one at a time and rounding by the last: of what was shifted out before it counts only whether it was nothing. Assumes nothing.
+-- Shifting places out one at a time and rounding by the last: of what was shifted out before it counts only whether
+-- it was nothing. Assumes nothing.
 use mathlib.Core.Path.{_≡_, refl, sym, ap, _∙_, subst}
 use mathlib.Core.Logic.{_⊎_, inl, inr}
 use Prim.Native.Nat.{ℕ, _+_, _-_, _*_, _/_, _%_, _^_, _<_, compare, Ordering, Ordering·lt, Ordering·eq, Ordering·gt}

@@ -1,5 +1,5 @@
--- `floored` is exact: its value is the whole number itself. It is at most x, and x is below it plus one, so that it is the greatest whole number not above x.
--- A whole number is its own floor, as every value from 2^52 up is; and floats alike have floors alike. Assumes nothing.
+-- `floored` is exact: its value is the whole number itself. It is at most x, and x is below it plus one (N4). A whole
+-- number is its own floor, as every value from 2^52 up is; and floats alike have floors alike. Assumes nothing.
 use mathlib.Core.Path.{_≡_, refl, sym, ap, _∙_, subst}
 use mathlib.Core.Logic.{_⊎_, inl, inr}
 use Prim.Native.Nat.{ℕ, zero, suc, _+_, _-_, _*_, _/_, _^_, _≤_, _<_}

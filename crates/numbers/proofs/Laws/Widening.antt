@@ -1,4 +1,5 @@
--- An f32's bits as an f64's: below 2 ^ -126 the digits times 2 ^ -149, from there up the field and the digits moved. Assumes nothing.
+-- An f32's bits as an f64's: below 2 ^ -126 the digits times 2 ^ -149, from there up the field and the digits moved.
+-- Assumes nothing.
 use mathlib.Core.Path.{_≡_, refl, sym, ap, _∙_}
 use Prim.Native.Nat.{ℕ, suc, _+_, _-_, _*_, _/_, _%_, _^_, _≤_, _<_}
 use native.Mathlib.Nat.{lt-of-lt-of-le, mul-assoc, mul-lt-mul-of-pos-right, mod-lt}

@@ -1,4 +1,5 @@
--- Clocks that are alike stay so: the instant, the middle's place and the clock after a strobe depend only on the numbers, zeros alike. Assumes nothing.
+-- Clocks that are alike stay so: the instant, the middle's place and the clock after a strobe depend only on
+-- the numbers (N10). Assumes nothing.
 use mathlib.Core.Path.{_≡_}
 use Prim.Native.Nat.{ℕ}
 use mathlib.Core.Bool.{Bool}
@@ -28,7 +29,7 @@ same-whole e p = rw (e, alike-floor-plus p, alike-floor-less p)
 alike-part : {v w : Float} → Alike v w → Alike (partOf v) (partOf w)
 alike-part p = like-sub binary64 p (alike-floor p)
 
--- ---- what the clock tells
+-- ---- the instant and the middle's place
 module _ {c d : Clock} (h : AlikeClock c d) where
   pub alike-instant : Alike (nextStrobe c) (nextStrobe d)
   unfolding nextStrobe

@@ -1,4 +1,4 @@
--- The worked cases of the timing loop hold. Assumes nothing.
+-- X1 to X4: the cases of the timing loop hold. Assumes nothing.
 use mathlib.Core.Path.{refl}
 use lib.Ieee.{ofBits, round, neg, add, sub, mul}
 use Rattle.timing.specs.Part.{interpolated}

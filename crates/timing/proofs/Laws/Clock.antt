@@ -1,4 +1,5 @@
--- What holds of the clock and its place holds again after a strobe, once the middle is taken, and after a run, whatever the samples are. Assumes nothing.
+-- What holds of the clock and its place holds again after a strobe, once the middle is taken, and after a run,
+-- whatever the samples are. Assumes nothing.
 use mathlib.Core.Path.{_≡_}
 use mathlib.Core.Bool.{Bool, true, false, cond}
 use Prim.Native.Nat.{ℕ, _-_, _≤_, _<_, _^_, min}
@@ -64,7 +65,7 @@ running-advanced p c b n g e E h b′ =
 pub running-ready : (p : Params) (c : Clock) (b : Bool) (n : ℕ) → Running p c b n → Running p c false n
 running-ready p c b n g = record { params = g .params; steady = g .steady; first = g .first; far = g .far; mid-first = λ x. absurd x }
 
--- so can a given one whose strobe can be worked out take the detector's error, once it is settled
+-- so a given clock whose strobe is available can take the detector's error, once it is settled
 pub strobe-moves : {p : Params} {c : Clock} → GivenStrobe p c → (started : Bool) (e : Float) → On (c .i) (moved p c (settled started e))
 strobe-moves {p} {c} g started e = running-able p c (g .mid) (g .ahead) (g .running) (g .there) (g .small) (settled started e) (settled-finite started e)
 

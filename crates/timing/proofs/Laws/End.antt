@@ -1,4 +1,5 @@
--- The end of a run, for any sample type: what its steps ask of the track that the loop left, and that they give what the definition says. Assumes nothing.
+-- The end of a run, for any sample type: what its steps ask of the track that the loop left, and that they give what
+-- the definition says. Assumes nothing.
 use mathlib.Core.Path.{_≡_, sym, ap, _∙_, subst}
 use mathlib.Core.Bool.{Bool, cond}
 use mathlib.Core.List.{List}

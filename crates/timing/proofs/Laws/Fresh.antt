@@ -1,4 +1,5 @@
--- A fresh state of any sample type is given: before the first strobe no middle is lacking, whichever the detector. Assumes nothing.
+-- A fresh state of any sample type is given: before the first strobe no middle is lacking, whichever the detector.
+-- Assumes nothing.
 use mathlib.Core.Path.{_≡_, refl, sym, subst}
 use mathlib.Core.Bool.{Bool, false}
 use Rattle.timing.specs.declared.params.Ted.{Ted}

@@ -1,4 +1,5 @@
--- Half of a spacing w of 1 or more is exact, and what is left of w after at most its half, rounded or not, is at least its half. Assumes nothing.
+-- Half of a spacing w of 1 or more is exact, and what is left of w after at most its half, rounded or not,
+-- is at least its half. Assumes nothing.
 use Prim.Native.Nat.{ℕ, suc, _+_, _*_, _^_, _≤_, _<_}
 use native.Mathlib.Nat.{le-trans, le-of-eq, le-of-lt, lt-of-le-of-lt, zero-lt-suc, mul-pos, mul-le-mul-right, pow-suc}
 use native.Mathlib.Omega.{arith}

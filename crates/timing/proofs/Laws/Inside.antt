@@ -1,4 +1,5 @@
--- The source's `Internal` errors never occur, and the position between calls has a bound: each of its checks asks of a place what a running clock gives. Assumes nothing.
+-- The original's `Internal` errors never occur (A11), and the position between calls has a bound (T23):
+-- each of its checks asks of a place what a running clock gives. Assumes nothing.
 use mathlib.Core.Bool.{Bool, true, false}
 use Prim.Native.Nat.{ℕ, _+_, _-_, _≤_, _<_}
 use native.Mathlib.Omega.{arith}
@@ -24,10 +25,10 @@ inside p c mid n g =
     middle-in true g l = running-pending p c true n g
     middle-in false g l = absurd l
 
--- `window` and `at`: a window whose place has a sample before it and two after it lies in the samples
+-- T24, of `window` and `at`: a window whose place has a sample before it and two after it lies in the samples
 pub window-inside : (len i j : ℕ) → 1 ≤ i → i + 2 < len → j < 4 → i - 1 + j < len
 window-inside len i j h k l = omega arith
 
--- "Between calls i is at most 1,312,502": it is at most 1,312,501, which the source has been seen to reach
+-- T23: the position between calls. The original has been seen to reach this bound (docs/DIFFERENCES.md)
 pub position-bound : (p : Params) (c : Clock) (mid : Bool) → Running p c mid 0 → c .i ≤ 1312501
 position-bound p c mid g = g .far

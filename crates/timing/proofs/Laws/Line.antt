@@ -1,4 +1,5 @@
--- The history followed by the input, over any sample type: the samples past the history, and the places at which a value can be worked out. Assumes nothing.
+-- The history followed by the input, over any sample type: the samples past the history, and the places at which
+-- a value is available. Assumes nothing.
 use mathlib.Core.Path.{_≡_, _∙_}
 use mathlib.Core.List.{List}
 use Prim.Native.Nat.{ℕ, suc, _+_, _<_}
@@ -22,7 +23,7 @@ module _ {A : Type 0} (h : Hist A) (xs : List A) where
   pub past-history-read : (y z : A) (j k : ℕ) → k < length xs → j ≡ k + 3 → getD xs k y ≡ getD (line h xs) j z
   past-history-read y z j k l e = getD-default xs k y z l ∙ past-history z j k e
 
-  -- "i + 2 is at most n + 2", of n input samples
+  -- T7: with n input samples, the value at i is available just if i is at most n
   pub there-within : (i n : ℕ) → length xs ≡ n → there (line h xs) i ≡ leb i n
   there-within i n e = there-leb (line h xs) n (omega arith) i
 

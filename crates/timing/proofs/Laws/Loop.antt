@@ -1,4 +1,5 @@
--- The timing loop over any sample type: its turns, what holds of its track while it runs, and its counts. Assumes nothing.
+-- The timing loop over any sample type: its turns, what holds of its track while it runs, and its counts.
+-- Assumes nothing.
 use mathlib.Core.Path.{_≡_, refl, sym, ap, subst}
 use mathlib.Core.Bool.{Bool, true, false, not, _&&_, cond}
 use mathlib.Core.List.{List}
@@ -29,7 +30,7 @@ held-not-lacking MuellerMuller started = refl
 abbrev pub valueHere : {A : Type 0} → Ops A → List A → Track A → A
 valueHere o l s = valueAt o l (s .clock .i) (s .clock .mu)
 
--- in n + 3 samples, i can be worked out just if it is at most n
+-- in n + 3 samples, the value at i is available just if i is at most n
 pub there-leb : {A : Type 0} (l : List A) (n : ℕ) → length l ≡ n + 3 → (i : ℕ) → there l i ≡ leb i n
 there-leb l n long i =
     same-test (ltb (i + 2) (length l)) (leb i n)
@@ -112,7 +113,7 @@ module _ {A : Type 0} (o : Ops A) (p : Params) (l : List A) where
         go true t y r f h = h refl
         go false t y r f h = f
 
-    -- a middle that is still lacking cannot be worked out
+    -- a middle that is still lacking is not available
     mid-far : (s : Track A) → let t = midTaken o p l s in T (lacks p t) → n < midIndex (t .clock)
     unfolding midTaken
     mid-far s = go (lacks p s) (there l (midIndex (s .clock))) (valueAt o l (midIndex (s .clock)) (midPart (s .clock))) (λ h. h) (nltb→le (midIndex (s .clock) + 2) (length l))
@@ -122,7 +123,7 @@ module _ {A : Type 0} (o : Ops A) (p : Params) (l : List A) where
         go true false m e f h = let k = f tt in omega arith
         go false b m e f h = absurd (e h)
 
-    -- nor can what a stopped run needs next
+    -- nor is what a stopped run needs next
     stop-far : (s : Track A) → T (not (ready p l s)) → (T (lacks p s) → n < midIndex (s .clock)) → n < pending p s
     unfolding pending
     stop-far s = go (lacks p s) (there l (s .clock .i)) (nltb→le (s .clock .i + 2) (length l))
@@ -132,7 +133,7 @@ module _ {A : Type 0} (o : Ops A) (p : Params) (l : List A) where
         go false true f h m = absurd h
         go false false f h m = let k = f tt in omega arith
 
-    -- a run that leaves a place empty stands before a place that cannot be worked out
+    -- a run that leaves an output place empty needs next an index that is not available
     pub runs-stuck : (k : ℕ) (s : Track A) → length (runs o p l k s .values) < k → n < pending p (runs o p l k s .last)
     unfolding runs
     runs-stuck zero s h = absurd (omega arith)

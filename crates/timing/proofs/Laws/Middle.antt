@@ -1,5 +1,6 @@
 -- The middle's place, half a spacing back of a strobe: the whole part of mu - w / 2 lies in -525,000 to 0.
--- Back of the strobe that a move v leads to, it lies no farther back than v's whole part: the middle does not come before the strobe that was left. Assumes nothing.
+-- Back of the strobe that a move v leads to, it lies no farther back than v's whole part:
+-- the middle does not come before the strobe that was left. Assumes nothing.
 use mathlib.Core.Path.{_≡_, refl, sym, ap, _∙_, subst}
 use mathlib.Core.Logic.{inl, inr}
 use Prim.Native.Nat.{ℕ, _+_, _*_, _/_, _%_, _≤_, _<_}

@@ -1,5 +1,6 @@
--- The spacing of the strobes: with sps from 2 to 1,000,000 and a deviation of at most 0.05, sps less its limit is 3/2 or more, and sps plus its limit at most 1,050,000.
--- So the spacing of a steady clock lies between these. Assumes nothing.
+-- The spacing of the strobes: with sps from 2 to 1,000,000 and a deviation of at most 0.05, sps less its limit
+-- is 3/2 or more, and sps plus its limit at most 1,050,000. So the spacing of a steady clock lies between these.
+-- Assumes nothing.
 use mathlib.Core.Path.{_≡_, refl, subst}
 use mathlib.Core.Bool.{Bool, true, false}
 use lib.IntN.{pos, negsuc}

@@ -1,4 +1,5 @@
--- A place moved by the floor of v: the cast of the whole number to a `usize` loses nothing, and the place is the definition's. Assumes nothing.
+-- A place moved by the floor of v: the cast of the whole number to a `usize` loses nothing, and the place
+-- is the definition's. Assumes nothing.
 use mathlib.Core.Path.{_≡_, refl, sym, ap, _∙_, subst}
 use Prim.Native.Nat.{ℕ, _+_, _-_, _≤_, _<_, _^_}
 use native.Mathlib.Nat.{le-of-lt, lt-irrefl}

@@ -1,4 +1,5 @@
--- A whole run, and a call on real and on complex samples: a given state leaves a given state; the counts; the places that a call leaves; a refused call. Assumes nothing.
+-- A whole run, and a call on real and on complex samples: a given state leaves a given state; the counts;
+-- the places that a call leaves; a refused call. Assumes nothing.
 use mathlib.Core.Path.{_≡_, refl, _∙_, subst}
 use mathlib.Core.Bool.{Bool, true, false, cond}
 use mathlib.Core.List.{List}
@@ -45,7 +46,7 @@ module _ {A : Type 0} (o : Ops A) (s : Sync A) (xs : List A) (places : ℕ) wher
   unfolding ran consumed
   ran-all h = let k = runs-stuck o (s .params) (line (s .hist) xs) (length xs) long places (s .track) h in omega arith
 
--- ---- what a call leaves
+-- ---- A10: what a call leaves
 done-sparing : {A : Type 0} (o : Ops A) (m : Form A) (s : Sync A) (xs : List A) (places : ℕ) (ys : List Float) → m .width * places ≤ length ys → Sparing (m .width) (length xs) places ys (done (m .slice) (ran o s xs places) ys)
 done-sparing o m s xs places ys room =
     let vs = ran o s xs places .values in
@@ -72,7 +73,7 @@ module _ (s : Sync Float) (xs ys : List Float) where
 
 -- ---- a call on complex samples
 module _ (s : Sync C32) (xs ys : List Float) where
-  -- "A refused run yields its number, counts 0 and 0, …, the same state, and every buffer unchanged."
+  -- A7: where a buffer is odd, the call is refused
   pub calledComplex-refused : oddEither xs ys ≡ true → calledComplex s xs ys ≡ refusedCall Odd s ys
   unfolding calledComplex
   calledComplex-refused e = rw e

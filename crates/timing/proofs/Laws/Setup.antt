@@ -1,4 +1,5 @@
--- Which set-up is refused, exactly; and what an accepted one says of its parameters: where sps and the deviation lie, that the gains are finite, and what the limit is. Assumes nothing.
+-- Which set-up is refused, exactly; and what an accepted one says of its parameters: where sps and the deviation lie,
+-- that the gains are finite, and what the limit is. Assumes nothing.
 use mathlib.Core.Path.{_≡_, refl, sym, ap, _∙_, subst}
 use Prim.Native.Nat.{ℕ}
 use mathlib.Core.Bool.{true, false, _&&_}
@@ -24,7 +25,7 @@ use Rattle.timing.specs.Sample.{Ops}
 use Rattle.timing.specs.Given.{Tuned}
 use Rattle.timing.specs.Run.{openedBy, openingNumber}
 
--- ---- which set-up is refused, by its number
+-- ---- T4: which set-up is refused, by its number
 pub refused-exactly : (sps : Float) (ted : Ted) (bw damping dev gain : Float) → Exactly (tuningNumber (tuned sps ted bw damping dev gain)) (rows sps bw damping dev gain)
 unfolding tuned
 refused-exactly sps ted bw damping dev gain = exactly tuningNumber Refused (λ n. refl) _ refl (rows sps bw damping dev gain)

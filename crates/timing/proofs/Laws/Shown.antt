@@ -1,4 +1,5 @@
--- What a run shows over a buffer, for any sample type: the invariant of the loops that store its values one by one, its turns, and what it says at the end. Assumes nothing.
+-- What a run shows over a buffer, for any sample type: the invariant of the loops that store its values one by one,
+-- its turns, and what it says at the end. Assumes nothing.
 use mathlib.Core.Path.{_≡_, refl, sym, ap, _∙_, subst}
 use mathlib.Core.Bool.{Bool, true, false, not, Bool·not-not, _&&_}
 use mathlib.Core.List.{List, [], _∷_, _++_, append-assoc}
@@ -70,7 +71,8 @@ shown-more m k ys y r =
     let g = ap (sets ys (m .width * k)) (m .some y (r .values)) ∙ sets-append ys (m .width * k) (m .floats y) (m .slice (r .values)) ∙ ap (λ (i : ℕ). sets (sets ys (m .width * k) (m .floats y)) i (m .slice (r .values))) h in
     λ j. record { last = r .last; produced = e j; output = g j }
 
--- ---- the invariant: k of q places are done, with the track s and the buffer ys; what the definition shows from here is what it shows from the start
+-- ---- the invariant: k of q places are done, with the track s and the buffer ys; what the definition shows from here
+-- is what it shows from the start
 pub record Underway {A : Type 0} (o : Ops A) (m : Form A) (p : Params) (l : List A) (n q : ℕ) (s₀ : Track A) (ys₀ : List Float) (s : Track A) (ys : List Float) (k : ℕ) : Type 0 where
   pub long : length l ≡ n + 3
   pub input-small : n < 2 ^ 63
@@ -82,7 +84,8 @@ pub record Underway {A : Type 0} (o : Ops A) (m : Form A) (p : Params) (l : List
   pub running : TrackRunning p n s
   pub shows : shown m k ys (runs o p l (q - k) s) ≡ shown m 0 ys₀ (runs o p l q s₀)
 
--- what a run over q places ends with: its last track, how many values there are, and the values before the rest of the buffer
+-- what a run over q places ends with: its last track, how many values there are, and the values
+-- before the rest of the buffer
 abbrev pub Ended : {A : Type 0} → Form A → Strobes A → List Float → Track A → ℕ → List Float → Type 0
 Ended m r ys₀ t k ys = (t ≡ r .last) × ((k ≡ length (r .values)) × (ys ≡ written (m .slice (r .values)) ys₀))
 

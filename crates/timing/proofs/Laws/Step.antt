@@ -1,5 +1,7 @@
--- One move of the clock: with a fraction mu from 0 up to 1, a spacing w from 1 to 1,050,000 and a push within ± w / 4, v = (mu + w) + push is at least w / 2 and at most 1,312,501.
--- So its whole part is at most that, and what is left over it lies in 0 up to but not 1; from a spacing of 3/2 on the whole part is 1 or more. Every operation is rounded. Assumes nothing.
+-- One move of the clock (T18): with a fraction mu from 0 up to 1, a spacing w from 1 to 1,050,000 and a push
+-- within ± w / 4, v = (mu + w) + push is at least w / 2 and at most 1,312,501. So its whole part is at most that,
+-- and what is left over it lies from 0 to below 1; from a spacing of 3/2 on the whole part is 1 or more.
+-- Every operation is rounded. Assumes nothing.
 use mathlib.Core.Path.{_≡_, refl}
 use Prim.Native.Nat.{ℕ, zero, suc, _+_, _*_, _≤_, _<_}
 use native.Mathlib.Nat.{zero-mul, zero-lt-suc, mul-le-mul-right, lt-of-mul-lt-mul-right, mul-pos}

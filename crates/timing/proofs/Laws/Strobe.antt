@@ -1,5 +1,5 @@
--- One strobe keeps a steady clock steady, moves its place on by 1 to 1,312,501, and puts the next middle no earlier than the place it left, whatever the error is, if only it is finite.
--- Assumes nothing.
+-- One strobe keeps a steady clock steady, moves its place on by 1 to 1,312,501, and puts the next middle no earlier
+-- than the place it left, whatever the error is, if only it is finite. Assumes nothing.
 use mathlib.Core.Path.{_≡_}
 use Prim.Native.Nat.{_+_, _≤_}
 use native.Mathlib.Omega.{arith}

@@ -1,4 +1,5 @@
--- One output place, over any sample type: the middle is taken or left by two tests, and a strobe is made of its parts. Assumes nothing.
+-- One output place, over any sample type: the middle is taken or left by two tests, and a strobe is made
+-- of its parts. Assumes nothing.
 use mathlib.Core.Path.{_≡_, refl, sym, ap, _∙_}
 use mathlib.Core.Bool.{Bool, true, false, _&&_, cond}
 use mathlib.Core.List.{List}

@@ -1,4 +1,5 @@
--- Document 01's claim on turned recordings, for the complex timing loop: turned inputs give the same numbers, counts and clock, and turned strobes, over a list of calls of any length. Assumes nothing.
+-- Q10: turned recordings, for the complex timing loop: turned inputs give the same numbers, counts and clock,
+-- and turned strobes, over a list of calls of any length. Assumes nothing.
 use mathlib.Core.Path.{_≡_, refl, sym, ap, ap₂, _∙_, subst}
 use Prim.Native.Nat.{ℕ, _/_, _%_}
 use native.Mathlib.Omega.{arith}
@@ -67,7 +68,7 @@ tied-call k {s} {t} {c} {d} h r = subst (λ (b : Bool). TiedOutcome k (calledBy 
 pub same-clock : {k : ℕ} {s t : Sync C32} → TiedSync k s t → SameClock s t
 same-clock h = record { instant = alike-instant (h .track .clock); pace = h .track .clock .spacing }
 
--- from a state just set up or just reset
+-- Q10: from a fresh state
 pub turned-calls : (k : ℕ) (p : Params) (cs ds : List Call) → Each (TurnedCall whole k) cs ds → TurnedList k (fresh complex p) (fresh complex p) cs ds
 turned-calls k p cs ds r =
     let q = lists-keep callOf leftBy (λ (s t : Sync C32) (c d : Call) (h : TiedSync k s t) (q : TurnedCall whole k c d). let o = tied-call k h q in (o .answer, o .state)) (tied-fresh k p) r in

@@ -1,4 +1,5 @@
--- The complex timing loop on a turned recording, from one strobe to a whole run: the clock stays alike, and each sample is turned. Assumes nothing.
+-- The complex timing loop on a turned recording, from one strobe to a whole run: the clock stays alike,
+-- and each sample is turned. Assumes nothing.
 use mathlib.Core.Path.{_≡_, refl, sym, ap, ap₂}
 use Prim.Native.Nat.{ℕ, zero, suc, _+_, _-_}
 use mathlib.Core.Bool.{Bool, not, _&&_}
@@ -117,7 +118,7 @@ pub record TiedSync (k : ℕ) (s t : Sync C32) : Type 0 where
   pub hist : TiedHist k (s .hist) (t .hist)
   pub track : Tied k (s .track) (t .track)
 
--- "fresh": just set up or just reset
+-- Q4: two fresh states
 pub tied-fresh : (k : ℕ) (p : Params) → TiedSync k (fresh complex p) (fresh complex p)
 tied-fresh k p =
     let z = turned-zero k in

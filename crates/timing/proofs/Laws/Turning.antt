@@ -1,4 +1,5 @@
--- A quarter turn and a sample's arithmetic: the interpolation and the decision turn with what they are taken of, and neither detector's error notices a turn. Assumes nothing.
+-- A quarter turn and a sample's arithmetic: the interpolation and the decision turn with what they are taken of,
+-- and a turn leaves the error of either detector as it is. Assumes nothing.
 use Prim.Native.Nat.{ℕ, zero, suc}
 use mathlib.Core.Bool.{Bool, true, false}
 use lib.IntN.{pos}

@@ -1,4 +1,5 @@
--- Which buffers hold whole samples, by the counts of their f32; and the length of a slice with values at its front. Assumes nothing.
+-- Which buffers hold whole samples, by the counts of their f32; and the length of a slice with values at its front.
+-- Assumes nothing.
 use mathlib.Core.Path.{_≡_, _∙_}
 use mathlib.Core.Bool.{true, false, or-true}
 use mathlib.Core.List.{List}

@@ -1,4 +1,5 @@
--- A list of calls: it has an outcome for each call, on the state that the calls before it left; and what one call keeps of two states, a list keeps. Assumes nothing.
+-- A list of calls: it has an outcome for each call, on the state that the calls before it left;
+-- and what one call keeps of two states, a list keeps. Assumes nothing.
 use mathlib.Core.Path.{_≡_, refl, ap}
 use mathlib.Core.List.{List, [], _∷_, _++_}
 use Prim.Native.Nat.{suc}

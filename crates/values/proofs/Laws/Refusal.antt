@@ -1,4 +1,4 @@
--- No refusal has the number 0, which says that a call is done. Assumes nothing.
+-- A2: no refusal has the number 0, which says that a call is done. Assumes nothing.
 use Prim.Native.Nat.{_<_}
 use lib.Dec.{lit<}
 use Rattle.values.specs.declared.error.Refusal.{Refusal}

@@ -1,4 +1,5 @@
--- The samples of a slice: how many there are, the one at an index, a part of the slice, one stored; and the way back. Assumes nothing.
+-- The samples of a slice: how many there are, the one at an index, a part of the slice, one stored; and the way back.
+-- Assumes nothing.
 use mathlib.Core.Path.{_≡_, refl, sym, ap, _∙_}
 use mathlib.Core.List.{List, [], _∷_, _++_}
 use Prim.Native.Nat.{ℕ, zero, suc, _+_, _*_, _/_, _%_, _<_, _≤_}

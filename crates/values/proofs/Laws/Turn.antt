@@ -1,4 +1,5 @@
--- Quarter turns of samples and of lists of them: two make the opposite, four are none, turns add, and turning respects numbers alike. Assumes nothing.
+-- Quarter turns of samples and of lists of them: two make the opposite, four are none, turns add,
+-- and turning respects numbers alike. Assumes nothing.
 use mathlib.Core.Path.{_≡_, refl, ap, _∙_}
 use mathlib.Core.List.{List, [], _∷_}
 use Prim.Native.Nat.{ℕ, zero, suc, _+_, _*_, _/_, _%_}

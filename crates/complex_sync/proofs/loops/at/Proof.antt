@@ -1,4 +1,5 @@
--- `complex_sync::at` meets its contract: the history by the definition, past it by what `sample_at` ensures. Assumes nothing.
+-- `complex_sync::at` meets its contract: the history by the definition, past it by what `sample_at` ensures.
+-- Assumes nothing.
 use mathlib.Core.Path.{_∙_}
 use Prim.Native.Nat.{_-_}
 use native.Mathlib.Omega.{arith}

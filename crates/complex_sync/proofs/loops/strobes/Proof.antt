@@ -1,4 +1,5 @@
--- `strobes` meets its contract. The invariant: what the definition shows from here is what it shows from the start. Assumes nothing.
+-- `strobes` meets its contract. The invariant: what the definition shows from here is what it shows from the start.
+-- Assumes nothing.
 use mathlib.Core.Path.{_∙_}
 use Prim.Native.Nat.{_-_}
 use native.Mathlib.Omega.{arith}

@@ -1,4 +1,5 @@
--- `complex_sync::symbol_sync` meets its contract: it is the entry of the crate `lent`, with one output, at the complex loop's state and answer. Assumes nothing.
+-- `complex_sync::symbol_sync` meets its contract: it is the entry of the crate `lent`, with one output,
+-- at the complex loop's state and answer. Assumes nothing.
 use mathlib.Core.Path.{_≡_, refl}
 use Rattle.timing.specs.Run.{Given, calledComplex}
 use Rattle.complex_sync.specs.Views.{sync, outcomeOf, answered}

@@ -1,4 +1,5 @@
--- `complex_sync::start` meets its contract: the literal, with the fresh clock in it, is the fresh state. Assumes nothing.
+-- `complex_sync::start` meets its contract: the literal, with the fresh clock in it, is the fresh state.
+-- Assumes nothing.
 use mathlib.Core.Path.{sym, ap, subst}
 use mathlib.Core.Bool.{false}
 use lib.Ieee.{ofBits}

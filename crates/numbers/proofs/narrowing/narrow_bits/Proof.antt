@@ -1,4 +1,5 @@
--- `numbers::narrowing::narrow_bits` meets its contract: each way through it is one of the laws on places. Assumes nothing.
+-- `numbers::narrowing::narrow_bits` meets its contract: each way through it is one of the laws on places.
+-- Assumes nothing.
 use native.Mathlib.Omega.{arith}
 use borrow.Author.Needs.{needs}
 use Rattle.numbers.proofs.Laws.Places.{narrow-none, narrow-low, narrow-normal, narrow-over}

@@ -1,4 +1,5 @@
--- `numbers::whole::floor` meets its contract: from 2^52 up x is its own floor, and below that its floor is found from the whole number beside x. Assumes nothing.
+-- `numbers::whole::floor` meets its contract: from 2^52 up x is its own floor, and below that its floor is found from
+-- the whole number beside x. Assumes nothing.
 use mathlib.Core.Logic.{inl, inr}
 use lib.Dec.{T}
 use lib.Ieee.{Float, binary64, ofBits, neg, lt, fits}

@@ -1,4 +1,5 @@
--- `numbers::widening::widen_bits` meets its contract: each way through it is one of the laws on widening. Assumes nothing.
+-- `numbers::widening::widen_bits` meets its contract: each way through it is one of the laws on widening.
+-- Assumes nothing.
 use Prim.Native.Nat.{_^_}
 use native.Mathlib.Omega.{arith}
 use lib.Dec.{le→leb}

@@ -1,4 +1,5 @@
--- `real_sync::at` meets its contract: the history by the definition, past it by the sample that is read. Assumes nothing.
+-- `real_sync::at` meets its contract: the history by the definition, past it by the sample that is read.
+-- Assumes nothing.
 use Prim.Native.Nat.{_-_}
 use native.Mathlib.Omega.{arith}
 use Rattle.real_sync.specs.Views.{hist}

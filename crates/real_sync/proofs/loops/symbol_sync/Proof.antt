@@ -1,4 +1,5 @@
--- `real_sync::symbol_sync` meets its contract: it is the entry of the crate `lent`, with one output, at the real loop's state and counts. Assumes nothing.
+-- `real_sync::symbol_sync` meets its contract: it is the entry of the crate `lent`, with one output,
+-- at the real loop's state and counts. Assumes nothing.
 use mathlib.Core.Path.{_≡_, refl}
 use Rattle.timing.specs.Run.{Given, calledReal}
 use Rattle.real_sync.specs.Views.{sync, outcomeOf, answered}

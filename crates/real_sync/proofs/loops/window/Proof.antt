@@ -1,4 +1,5 @@
--- `real_sync::window` meets its contract: by what `at` ensures, and past the history by the samples that are read. Assumes nothing.
+-- `real_sync::window` meets its contract: by what `at` ensures, and past the history by the samples that are read.
+-- Assumes nothing.
 use mathlib.Core.List.{[], _∷_}
 use Prim.Native.Nat.{_+_, _-_}
 use native.Mathlib.Omega.{arith}

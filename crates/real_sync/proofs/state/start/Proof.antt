@@ -1,4 +1,5 @@
--- `real_sync::start` meets its contract: the literal, with the fresh clock in it, is the fresh state. Assumes nothing.
+-- `real_sync::start` meets its contract: the literal, with the fresh clock in it, is the fresh state.
+-- Assumes nothing.
 use mathlib.Core.Path.{sym, ap, subst}
 use mathlib.Core.Bool.{false}
 use lib.Ieee.{Float, ofBits}

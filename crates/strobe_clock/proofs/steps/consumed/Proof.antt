@@ -1,4 +1,5 @@
--- `strobe_clock::consumed` meets its contract: the position that the loop needs next is the definition's, and the test picks the smaller number. Assumes nothing.
+-- `strobe_clock::consumed` meets its contract: the position that the loop needs next is the definition's,
+-- and the test picks the smaller number. Assumes nothing.
 use mathlib.Core.Path.{_≡_, sym, ap, _∙_, subst}
 use mathlib.Core.Logic.{⊎-elim}
 use mathlib.Core.Bool.{Bool, cond}

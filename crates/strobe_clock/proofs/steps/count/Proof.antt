@@ -1,4 +1,5 @@
--- `strobe_clock::count` meets its contract: a whole number that the cast takes is at most 2^53, so that it is the same as an `i64`. Assumes nothing.
+-- `strobe_clock::count` meets its contract: a whole number that the cast takes is at most 2^53,
+-- so that it is the same as an `i64`. Assumes nothing.
 use mathlib.Core.Path.{_≡_, sym, ap, _∙_, subst}
 use Prim.Native.Nat.{_≤_, _<_, _^_}
 use native.Mathlib.Omega.{arith}

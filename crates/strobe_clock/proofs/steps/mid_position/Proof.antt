@@ -1,4 +1,5 @@
--- `strobe_clock::mid_position` meets its contract: the floor of v lies at or below 0, so that 0 - f is the whole number to go back by. Assumes nothing.
+-- `strobe_clock::mid_position` meets its contract: the floor of v lies at or below 0, so that 0 - f is the whole
+-- number to go back by. Assumes nothing.
 use mathlib.Core.Path.{sym, ap, _∙_, subst}
 use Prim.Native.Nat.{ℕ, _-_, _≤_}
 use lib.Ieee.{Float, binary64, ofBits, sub}

@@ -1,4 +1,5 @@
--- `strobe_clock::steps::step_on` meets its contract: its numbers are the definition's, and v lies above 0, so that its floor is the whole number to go on by. Assumes nothing.
+-- `strobe_clock::steps::step_on` meets its contract: its numbers are the definition's, and v lies above 0,
+-- so that its floor is the whole number to go on by. Assumes nothing.
 use mathlib.Core.Path.{_≡_, sym, ap, _∙_, subst}
 use Prim.Native.Nat.{ℕ, _+_, _<_, _^_}
 use lib.Ieee.{Float, binary64, ofBits, add, sub, mul}

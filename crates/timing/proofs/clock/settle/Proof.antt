@@ -1,4 +1,5 @@
--- `timing::settle` meets its contract: by the flag, then by the test for a finite error, which a cast to f64 keeps. Assumes nothing.
+-- `timing::settle` meets its contract: by the flag, then by the test for a finite error, which a cast to f64 keeps.
+-- Assumes nothing.
 use mathlib.Core.Path.{sym, _∙_}
 use mathlib.Core.Logic.{inl, inr}
 use mathlib.Core.Bool.{Bool, cond}

@@ -1,4 +1,5 @@
--- `timing::setup::gains_of` meets its contract: the quotients, divided and multiplied as the definition has it. Assumes nothing.
+-- `timing::setup::gains_of` meets its contract: the quotients, divided and multiplied as the definition has it.
+-- Assumes nothing.
 use mathlib.Core.Path.{ap}
 use borrow.Author.Needs.{needs}
 use Rattle.ieee.specs.Notation.{_⊠_, _⧄_}

@@ -1,4 +1,5 @@
--- `timing::tune` meets its contract: the tests that led to an answer are the rows that the definition goes by. Assumes nothing.
+-- `timing::tune` meets its contract: the tests that led to an answer are the rows that the definition goes by.
+-- Assumes nothing.
 use mathlib.Core.Path.{_≡_, sym, ap, _∙_, subst}
 use mathlib.Core.Logic.{inl, inr}
 use mathlib.Core.Bool.{Bool, true, false, _&&_}
