@@ -175,7 +175,7 @@ def as_text(patterns):
 
 
 LIST_HEAD = """\
--- "4,097 entries, entry j the f32 nearest to the cosine of j/4096 of a turn, entries 1024 and 3072 plus zero": their bit patterns, entry j at place j.
+-- C10: the cosine table's 4,097 entries as bit patterns, in order; both zeros have a plus sign.
 -- Written by oracle/cosine_table.py. Definitions only.
 use Prim.Native.Nat.{ℕ}
 use mathlib.Core.List.{List, [], _∷_}
@@ -196,7 +196,7 @@ ARRAY_HEAD = """\
 ghost use mathlib.Core.Path.{_≡_};
 ghost use Rattle.cosine.specs.Table.{cosList};
 
-// Entry j is the f32 nearest to the cosine of j/4096 of a turn; entries 1024 and 3072 are plus zero.
+// C10: entry j is cos(2 pi j / 4096), the nearest f32. Both zeros have a plus sign.
 const COS_F32: [f32; 4097] = [
 """
 

@@ -20,7 +20,7 @@ pub fn same_f64(x: f64, y: f64) -> bool
     f64_bits(x) == f64_bits(y)
 }
 
-// Whether x and y are the same number, the two zeros alike, or both NaN.
+// N10: whether x and y are the same number, the two zeros alike, or both NaN.
 pub fn alike_f32(x: f32, y: f32) -> bool
     ensures { λ r. ⌜ r ≡ sameNumber x y ⌝ }
 {

@@ -1,6 +1,6 @@
-// Receives one recording, which stands on standard input, cut into blocks in several ways, and compares
-// each cut with the recording received whole, bit for bit: the counts, every strobe, every output sample
-// and every field of the record at the end. How a recording is cut never shows.
+// P6: receives one recording, which stands on standard input, cut into blocks in several ways, and compares
+// each cut with the recording received whole, bit for bit: the counts, every strobe, every output sample and
+// every field of the record at the end. They are equal for every cut (B3).
 //
 // The recording has 4,000 complex f32 samples, little-endian, real part first. Both detectors and all
 // constellations receive it, as recorded and with parts of its samples damaged.

@@ -1,4 +1,5 @@
--- "Turned recordings", for the carrier alone: a list of calls, each on the state that the last one left, and what is claimed of a second list that is the first turned k times. Definitions only.
+-- Q10, for the carrier alone: a list of calls, each on the state that the call before left, and what is claimed of a
+-- second list, which is the first turned k times. Definitions only.
 use mathlib.Core.Path.{_≡_}
 use Prim.Native.Nat.{ℕ, _+_, _-_, _%_}
 use mathlib.Core.Bool.{Bool}
@@ -30,23 +31,23 @@ outcomes s cs = outcomesBy callOf leftBy s cs
 abbrev pub after : CostasState → List Call → CostasState
 after s cs = afterBy callOf leftBy s cs
 
--- "(k - m) mod 4"
+-- Q8: how often an output sample is turned, (k - m) mod 4
 abbrev pub turnsLess : ℕ → ℕ → ℕ
 turnsLess k m = (k + (4 - m)) % 4
 
--- "Equal are all numbers … answered in the list"; "each output sample" is turned j times
+-- of one call: the numbers are equal (Q7), and each output sample is turned j times (Q8)
 pub record TurnedOutcome (j : ℕ) (q r : Outcome) : Type 0 where
   pub number : r .number ≡ q .number
   pub turned : q .number ≡ 0 → AllTurned j (samples (q .output)) (samples (r .output))
 
--- "and, after it, … frequency, level and lock; the second phase is the first plus m × 2^30, modulo 2^32"
+-- Q7, after the lists: frequency, level and lock are alike, and the second phase is m quarters on
 pub record SameCarrier (m : ℕ) (s t : CostasState) : Type 0 where
   pub frequency : Alike (t .track .nco .freq) (s .track .nco .freq)
   pub level : Alike (t .track .lock .level) (s .track .lock .level)
   pub lock : t .track .lock .locked ≡ s .track .lock .locked
   pub phase : t .track .nco .phase ≡ quartersOn m (s .track .nco .phase)
 
--- the single claim about two lists of calls, from the states s and t
+-- Q10: the one statement about two lists of calls, from the states s and t
 pub record TurnedList (k m : ℕ) (s t : CostasState) (cs ds : List Call) : Type 0 where
   pub answers : Each (TurnedOutcome (turnsLess k m)) (outcomes s cs) (outcomes t ds)
   pub carriers : SameCarrier m (after s cs) (after t ds)

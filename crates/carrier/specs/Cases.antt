@@ -1,4 +1,5 @@
--- Worked cases of the carrier loop: two octants, two of QPSK's measures, and the lock's rules at their ends. (The phase steps are in `modulate`.) Definitions only.
+-- X9 to X12, X18 and X19: two octants, two of QPSK's measures, and the lock at both of its levels. (The phase steps
+-- are in `modulate`.) Definitions only.
 use mathlib.Core.Path.{_≡_}
 use mathlib.Core.Bool.{Bool, true, false}
 use lib.Ieee.{Float, binary32, ofBits}
@@ -29,19 +30,19 @@ abbrev below-three-tenths : Float
 below-three-tenths = ofBits binary32 0x3e999999
 
 pub record Cases : Type 0 where
-  -- "8-PSK (1, 1): octant 1"
+  -- X9: (1, 1)
   pub octant-diagonal : octantOf diagonal ≡ 1
-  -- "(0, 1): 2"
+  -- X10: (0, 1)
   pub octant-upright : octantOf upright ≡ 2
-  -- "QPSK measure (1, 1): 1"
+  -- X11: the measure of (1, 1)
   pub qpsk-diagonal : qpskMetric diagonal ≡ Number one₀
-  -- "silence: none"
+  -- X12: silence has no measure
   pub qpsk-silence : qpskMetric silence ≡ Nothing
-  -- "Level 0.5 sets no lock"
+  -- X18: exactly 0.5 leaves the lock as it was
   pub half-keeps : (was : Bool) → lockAfter was half₀ ≡ was
-  -- "0.3 clears none"
+  -- X19: and so does exactly 0.3
   pub three-tenths-keeps : (was : Bool) → lockAfter was (decimal binary32 3 10) ≡ was
-  -- "above 0.5 sets lock"
+  -- C20: the next f32 above sets lock
   pub above-half-sets : (was : Bool) → lockAfter was above-half ≡ true
-  -- "below 0.3 clears it"
+  -- C20: the next f32 below clears it
   pub below-three-tenths-clears : (was : Bool) → lockAfter was below-three-tenths ≡ false

@@ -1,4 +1,5 @@
--- What the source checks while it runs: where a table had no such entry, it would answer `Internal`. Definitions only.
+-- A11 and C22: what the original checks while it runs, and answers `Internal` where a table has no such entry.
+-- Definitions only.
 use Prim.Native.Nat.{_+_, _/_, _^_, _<_}
 use mathlib.Core.Bool.{true}
 use mathlib.Core.List.{List, [], _∷_}

@@ -16,12 +16,13 @@ use Rattle.carrier.specs.declared.state.Reply.{Reply}
 use Rattle.carrier.specs.declared.state.Reply.the-variants.{Done, Refused}
 use Rattle.carrier.specs.Step.{Symbols, runs}
 
--- document 01's number (0: done), the state, and what the output holds; "the carrier alone has no counts"
+-- A2: the number of the answer (0: done), the state, and what the output holds; there are no counts (A7)
 pub record Outcome : Type 0 where
   pub number : ℕ
   pub state : CostasState
   pub output : List Float
 
+-- K7: the number of an answer
 abbrev pub replied : Reply → ℕ
 replied Done = 0
 replied (Refused n) = numberOf n
@@ -30,10 +31,11 @@ replied (Refused n) = numberOf n
 abbrev pub symbols : CostasState → List Float → Symbols
 symbols s xs = runs cosList (s .constellation) (s .params) (s .track) (samples xs)
 
--- "A refused run yields its number, …, the same state, and every buffer unchanged."
+-- A7: a refused call leaves the state and the output as they were
 abbrev pub refusedCall : Refusal → CostasState → List Float → Outcome
 refusedCall n s ys = record { number = numberOf n; state = s; output = ys }
 
+-- C1: an accepted call has an output sample for each input sample
 abbrev pub done : CostasState → List Float → Outcome
 done s xs = let r = symbols s xs in record { number = 0; state = record { constellation = s .constellation; params = s .params; track = r .last }; output = parts (r .values) }
 
@@ -41,7 +43,7 @@ done s xs = let r = symbols s xs in record { number = 0; state = record { conste
 abbrev pub carried : CostasState → List Float → List Float → Outcome
 carried s xs ys = let r = done s (take (2 * (length ys / 2)) xs) in record { number = 0; state = r .state; output = written (r .output) ys }
 
--- "in a run 8 before 7": an odd count of f32 in either buffer, then lengths that differ
+-- C1: an odd count of f32 in either buffer is refused (E8), then lengths that differ (E7)
 unfoldable pub called : CostasState → List Float → List Float → Outcome
 called s xs ys = cond (oddEither xs ys) (refusedCall Odd s ys) (cond (eqb (length xs) (length ys)) (done s xs) (refusedCall Uneven s ys))
 

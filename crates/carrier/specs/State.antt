@@ -1,4 +1,5 @@
--- The state of the loop: which set-up is refused and which state a set-up, a reset or a setter gives; and what holds of every such state. Definitions only.
+-- The state of the loop: which set-up is refused and which state a set-up, a reset or a setter gives; and what holds
+-- of every such state. Definitions only.
 use mathlib.Core.Path.{_≡_}
 use Prim.Native.Nat.{ℕ, _<_, _^_}
 use mathlib.Core.Bool.{true, false, cond}
@@ -20,16 +21,16 @@ use Rattle.carrier.specs.declared.state.SetUp.{SetUp}
 use Rattle.carrier.specs.declared.state.SetUp.the-variants.{Ready, Refused}
 use Rattle.carrier.specs.Gains.{kpOf, kiOf}
 
--- "The limit is flush of the offset narrowed to f32."
+-- C5: the values of a set-up with its gains (C3) and the limit of the frequency
 unfoldable pub paramsOf : Float → Float → Float → Params
 paramsOf bw damping offset =
     record { «loop_bw» = bw; damping = damping; «max_offset» = offset; kp = kpOf bw damping; ki = kiOf bw damping; max = flushed binary32 (narrowed offset) }
 
--- "Fresh: phase 0 (32 bits are one turn), frequency, level 0, unlocked; reset likewise."
+-- C7: the state after a set-up or a reset
 abbrev pub fresh : CostasConstellation → Params → CostasState
 fresh c p = record { constellation = c; params = p; track = record { nco = record { phase = 0; freq = zero₀ }; lock = record { level = zero₀; locked = false } } }
 
--- rows 2 to 4 of "Answers of a call"
+-- C4: the tests of a set-up in their order, those of E2, E3 and E4
 abbrev pub rows : Float → Float → Float → List Row
 rows bw damping offset =
     record { passed = inRange (decimal binary64 1 10000) bw (decimal binary64 2 10); reason = Width }
@@ -37,11 +38,11 @@ rows bw damping offset =
     ∷ record { passed = inRange zero₀ offset (decimal binary64 25 100); reason = Pull }
     ∷ []
 
--- a set-up's answer: "A refused set-up yields its number and no state."
+-- C4: a set-up's answer; a refused one has no state (A6)
 unfoldable pub opened : CostasConstellation → Float → Float → Float → SetUp
 opened c bw damping offset = firstOf Refused (rows bw damping offset) (Ready (fresh c (paramsOf bw damping offset)))
 
--- its number (0: accepted)
+-- K7: its number (0: accepted)
 abbrev pub setUpNumber : SetUp → ℕ
 setUpNumber (Ready s) = 0
 setUpNumber (Refused n) = numberOf n
@@ -50,23 +51,25 @@ setUpNumber (Refused n) = numberOf n
 abbrev pub Accepted : CostasConstellation → Params → Type 0
 Accepted c p = opened c (p .«loop_bw») (p .damping) (p .«max_offset») ≡ Ready (fresh c p)
 
--- "A phase may be set"
+-- C8: the phase is set, and all else stays
 abbrev pub phaseSet : CostasState → ℕ → CostasState
 phaseSet s phase = record { constellation = s .constellation; params = s .params; track = record { nco = record { phase = phase; freq = s .track .nco .freq }; lock = s .track .lock } }
 
--- "a frequency set is narrowed, flushed, limited, NaN becoming 0"
+-- C9: the frequency that is taken for freq
 unfoldable pub frequencyOf : Float → Float → Float
 frequencyOf freq max = let f = flushed binary32 (narrowed freq) in cond (isNan f) zero₀ (limited f max)
 
+-- C9: the frequency is set, and all else stays
 abbrev pub frequencySet : CostasState → Float → CostasState
 frequencySet s freq = record { constellation = s .constellation; params = s .params; track = record { nco = record { phase = s .track .nco .phase; freq = frequencyOf freq (s .params .max) }; lock = s .track .lock } }
 
--- ---- a state that a set-up, a reset, a setter or a run has given: all that a public call requires
+-- ---- A9: a given state, from a set-up, a reset, a setter or a run: all that a public call requires
 pub record Given (s : CostasState) : Type 0 where
   -- its parameters are those of a set-up that is accepted
   pub accepted : Accepted (s .constellation) (s .params)
+  -- C22: the phase has 32 bits
   pub phase-in : s .track .nco .phase < 2 ^ 32
-  -- "-max ≤ frequency ≤ max"
+  -- C22: -max ≤ frequency ≤ max
   pub freq-low : T (le (neg (s .params .max)) (s .track .nco .freq))
   pub freq-high : T (le (s .track .nco .freq) (s .params .max))
 

@@ -1,4 +1,4 @@
--- The loop from symbol to symbol. Definitions only.
+-- C23: the loop from symbol to symbol. Definitions only.
 use mathlib.Core.List.{List, [], _∷_}
 use lib.Ieee.{Float}
 use Rattle.values.specs.declared.sample.C32.{C32}
@@ -11,11 +11,11 @@ use Rattle.detectors.specs.Detector.{derotated, errorOf}
 use Rattle.detectors.specs.Lock.{metricOf, watched}
 use Rattle.carrier.specs.Filter.{advanced}
 
--- after the derotated symbol y
+-- C23: the loop after the output sample y: C16 to C18, then C19 and C20
 unfoldable pub stepped : CostasConstellation → Params → Track → C32 → Track
 stepped c p t y = record { nco = advanced p (t .nco) (errorOf c y); lock = watched (t .lock) (metricOf c y (decisionOf c y)) }
 
--- the input x, turned back by the oscillator's phase
+-- C13: the output sample of the input x, at the phase of the oscillator (C12)
 abbrev pub outputOf : List Float → Track → C32 → C32
 outputOf table t x = derotated x (pairAt table (t .nco .phase))
 

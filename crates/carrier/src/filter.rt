@@ -19,8 +19,8 @@ pub struct Nco {
     pub freq: f32,
 }
 
-// The integrator `clamp(flush_denormal(t), -limit, limit)`: inside the limit and above the flush
-// threshold (the case of a running loop) it is t itself, after one branch that is well foretold.
+// C17: the integrator `clamp(flush_denormal(t), -limit, limit)`. Inside the limit and above the flush
+// threshold (the case of a running loop) it is t itself, after one branch that is predicted well.
 pub(crate) fn integrate(t: f32, limit: f32) -> f32
     ensures { λ r. ⌜ r ≡ limited (flushed binary32 t) limit ⌝ }
 {
@@ -44,8 +44,8 @@ fn steer(p: Params, n: Nco, e: f32) -> Nco
     }
 }
 
-// The same of the error 0, out of the way of `steer`: were it `steer` with 0, a choice of the error
-// would lie on the chain from symbol to symbol.
+// The same of the error 0. It is a function of its own: with 0 handed to `steer`, the choice of the error
+// would lie on the dependency chain from symbol to symbol.
 fn coast(p: Params, n: Nco) -> Nco
     ensures { λ r. ⌜ r ≡ advanced p n zero₀ ⌝ }
 {
@@ -57,7 +57,7 @@ fn coast(p: Params, n: Nco) -> Nco
     }
 }
 
-// The oscillator after the detector's value e, which counts as 0 if it is not finite.
+// C18: the oscillator after the detector's value e, which counts as 0 if it is not finite.
 pub(crate) fn advance(p: Params, n: Nco, e: f32) -> Nco
     ensures { λ r. ⌜ r ≡ advanced p n (calmed e) ⌝ }
 {

@@ -2,7 +2,7 @@
 ghost use mathlib.Core.Path.{_≡_};
 ghost use Rattle.carrier.specs.Gains.{kpOf, kiOf};
 
-// The three values of a set-up, the gains and the limit.
+// C2: the three values of a set-up, with the gains and the limit.
 #[repr(C)]
 pub struct Params {
     // Loop bandwidth, normalized to the symbol rate.
@@ -27,7 +27,7 @@ pub(crate) struct LoopGains {
 // 2 pi, the nearest f64.
 const TAU: f64 = 6.283185307179586;
 
-// The gains, computed in f64 and narrowed.
+// C3: the gains, computed in f64 and narrowed.
 pub(crate) fn loop_gains(loop_bw: f64, damping: f64) -> LoopGains
     ensures { λ r. ⌜ r ≡ record { kp = kpOf «loop_bw» damping; ki = kiOf «loop_bw» damping } ⌝ }
 {

@@ -23,7 +23,7 @@ const MIN_OFFSET: f64 = 0.0;
 
 const MAX_OFFSET: f64 = 0.25;
 
-// The constellation, what a set-up settles, and what a run changes.
+// C6: the constellation, what a set-up settles, and what a run changes.
 pub struct CostasState {
     pub constellation: CostasConstellation,
     pub params: Params,
@@ -43,7 +43,7 @@ pub enum Reply {
 }
 
 impl Reply {
-    // Document 01's number of the answer: 0 where the run is done.
+    // K7: the number of the answer, 0 where the run is done.
     pub fn number(self) -> u32
         ensures { λ r. ⌜ r ≡ replied self ⌝ }
     {
@@ -54,7 +54,7 @@ impl Reply {
     }
 }
 
-// The values of a set-up with the gains and the limit. The limit is flushed: below 1e-30 it would keep
+// C5: the values of a set-up with the gains and the limit. The limit is flushed: below 1e-30 it would keep
 // the integrator subnormal.
 fn params_of(loop_bw: f64, damping: f64, max_offset: f64) -> Params
     ensures { λ r. ⌜ r ≡ paramsOf «loop_bw» damping «max_offset» ⌝ }
@@ -72,7 +72,7 @@ fn params_of(loop_bw: f64, damping: f64, max_offset: f64) -> Params
     }
 }
 
-// Phase 0, a zero frequency integrator, and the lock detector at 0, unlocked.
+// C7: phase 0, a zero frequency integrator, and the lock detector at 0, unlocked.
 fn start(constellation: CostasConstellation, p: Params) -> CostasState
     ensures { λ r. ⌜ r ≡ fresh constellation p ⌝ }
 {
@@ -95,9 +95,10 @@ fn start(constellation: CostasConstellation, p: Params) -> CostasState
     }
 }
 
-// A fresh state, or the lowest number of what is wrong with the three values: loop_bw, 0.0001 to 0.2 of
-// the symbol rate; damping, 0.1 to 4 (1/√2 is usual); max_offset, 0 to 0.25 cycles per symbol. The
-// source's "gains must be finite" has no place here: they are, of values in range (`gains-finite`).
+// C4: a fresh state, or the lowest number of what is wrong with the three values: loop_bw, 0.0001 to
+// 0.2 of the symbol rate; damping, 0.1 to 4 (1/√2 is usual); max_offset, 0 to 0.25 cycles per symbol.
+// The original's refusal of gains that are not finite is left out: with values in range they are
+// finite (`gains-finite`, A11).
 pub fn set_up(
     constellation: CostasConstellation,
     loop_bw: f64,
@@ -121,7 +122,7 @@ pub fn set_up(
     SetUp::Ready(s)
 }
 
-// The state after construction: the parameters are kept.
+// C7: the state after construction. The parameters are kept.
 pub fn reset(s: CostasState) -> CostasState
     requires { ⌜ Given s ⌝ }
     ensures state { λ r. ⌜ r ≡ fresh (s .constellation) (s .params) ⌝ }
@@ -132,7 +133,7 @@ pub fn reset(s: CostasState) -> CostasState
     start(c, p)
 }
 
-// Sets the phase, in units of 2^-32 turn.
+// C8: sets the phase, in units of 2^-32 turn.
 pub fn set_phase(s: CostasState, phase: u32) -> CostasState
     requires { ⌜ Given s ⌝ }
     ensures state { λ r. ⌜ r ≡ phaseSet s phase ⌝ }
@@ -169,7 +170,7 @@ fn frequency_of(freq: f64, max: f32) -> f32
     }
 }
 
-// Sets the frequency integrator, in cycles per symbol. The phase and the lock detector stay.
+// C9: sets the frequency integrator, in cycles per symbol. The phase and the lock detector stay.
 pub fn set_frequency(s: CostasState, freq: f64) -> CostasState
     requires { ⌜ Given s ⌝ }
     ensures state { λ r. ⌜ r ≡ frequencySet s freq ⌝ }
@@ -194,6 +195,7 @@ pub fn set_frequency(s: CostasState, freq: f64) -> CostasState
     }
 }
 
+// C21: the readings.
 impl CostasState {
     // The frequency integrator in cycles per symbol: the estimated carrier offset.
     pub fn frequency(self) -> f64

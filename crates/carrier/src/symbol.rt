@@ -14,7 +14,7 @@ pub struct Track {
     pub lock: Lock,
 }
 
-// The loop after the derotated symbol y.
+// C23: the loop after the derotated symbol y.
 pub fn step(constellation: CostasConstellation, p: Params, t: Track, y: C32) -> Track
     ensures { λ r. ⌜ r ≡ stepped constellation p t y ⌝ }
 {

@@ -1,6 +1,6 @@
-// Replays recorded answers of the original's carrier loop, which stand on standard input: set-ups,
-// setters, resets and runs, and each field of the state after them. Says how many lines were played of
-// each kind, and how many differ from what the crates `carrier` and `costas` compute.
+// P6: replays recorded answers of the original's carrier loop, which stand on standard input: set-ups,
+// setters, resets and runs, and each field of the state after them. Says how many lines were played of each
+// kind, and how many differ from what the crates `carrier` and `costas` compute.
 //
 // A line has 53 bytes: a letter, then three words of 16 hexadecimal digits, each after a space, and
 // a line end. Two f32 of the input and the output stand in one word, the first in its high half; any
@@ -53,7 +53,7 @@ fn play(
     after
 }
 
-// Plays a damaged operation, which has to be seen. Nothing else is left of it.
+// Plays a damaged operation, which must be counted as differing. It has no other effect.
 fn play_damaged(
     s: CostasState,
     op: Operation,

@@ -1,4 +1,5 @@
--- "`octant` 0 to 7 with the half-open octants", the eight points, and the point that a sample is held against. Definitions only.
+-- C14 and C15: the octant of a sample, the eight points, and the point that a sample is compared with.
+-- Definitions only.
 use Prim.Native.Nat.{ℕ}
 use mathlib.Core.Bool.{_&&_, cond}
 use mathlib.Core.List.{List, [], _∷_}
@@ -15,7 +16,7 @@ use Rattle.constellations.specs.declared.kinds.CostasConstellation.the-v
 unfoldable pub sizeOf : Float → Float
 sizeOf x = cond (lt x zero₀) (neg x) x
 
--- the quadrant by the signs, the half of it by the magnitudes; silence and NaN read as 0
+-- C14: the signs give the quadrant, the magnitudes its half; silence and NaN lie in no quadrant and have octant 0
 unfoldable pub octantOf : C32 → ℕ
 octantOf y =
     let wide = lt (magnitude (y .im)) (magnitude (y .re)) in
@@ -25,7 +26,7 @@ octantOf y =
     (cond (lt (y .re) zero₀ && le (y .im) zero₀) (cond wide 4 5)
     (cond (le zero₀ (y .re) && lt (y .im) zero₀) (cond tall 6 7) 0)))
 
--- cosine and sine of an eighth of half a turn, to the nearest (`points-are-cosines`)
+-- cos(π / 8) and sin(π / 8), each the nearest f32 (`points-are-cosines`)
 abbrev pub c8 : Float
 c8 = ofBits binary32 0x3f6c835e
 
@@ -35,7 +36,7 @@ s8 = ofBits binary32 0x3ec3ef15
 abbrev at : Float → Float → C32
 at x y = record { re = x; im = y }
 
--- `POINTS8`: point k stands in the middle of octant k
+-- C15: `POINTS8`, the points in the order of the octants
 unfoldable pub points8 : List C32
 points8 = at c8 s8 ∷ at s8 c8 ∷ at (neg s8) c8 ∷ at (neg c8) s8 ∷ at (neg c8) (neg s8) ∷ at (neg s8) (neg c8) ∷ at s8 (neg c8) ∷ at c8 (neg s8) ∷ []
 
@@ -45,7 +46,7 @@ pointAt k = getD points8 k silence
 abbrev pub pointOf : C32 → C32
 pointOf y = pointAt (octantOf y)
 
--- "the octant's entry in the eight points" for 8-PSK; the others need none
+-- C16: (dr, di), the point of the octant, for 8-PSK; BPSK and QPSK use none
 unfoldable pub decisionOf : CostasConstellation → C32 → C32
 decisionOf Bpsk y = silence
 decisionOf Qpsk y = silence

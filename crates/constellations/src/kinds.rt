@@ -1,4 +1,4 @@
-// The constellation of the loop: it selects the phase detector and the lock measure.
+// The constellation of the loop: it selects the phase detector (C16) and the lock measure (C19).
 pub enum CostasConstellation {
     // The detector y.re y.im.
     Bpsk,

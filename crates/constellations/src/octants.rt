@@ -11,7 +11,7 @@ const C8: f32 = 0.9238795;
 
 const S8: f32 = 0.38268343;
 
-// The points exp(j (2k + 1) pi / 8).
+// C15: the points exp(j (2k + 1) pi / 8).
 const POINTS8: [C32; 8] = [
     C32 { re: C8, im: S8 },
     C32 { re: S8, im: C8 },
@@ -30,9 +30,9 @@ pub fn size(x: f32) -> f32
     if x < 0.0 { -x } else { x }
 }
 
-// An octant of the quadrant whose two tests are a and b, the first one (k) if `nearer`; 0 if the sample
-// lies in another quadrant. A choice between numbers: symbols come in no order, so that no branch that
-// turns on one can be foretold.
+// An octant of the quadrant whose two tests are a and b, the first one (k) if `nearer`; 0 if the sample lies
+// in another quadrant. A choice between numbers and no branch: symbols come in no order, so that a branch on
+// one could not be predicted.
 fn half(a: bool, b: bool, nearer: bool, k: usize) -> usize
     requires { ⌜ k < 8 ⌝ }
     ensures { λ r. ⌜ r ≡ cond (a && b) (cond nearer k (k + 1)) 0 ⌝ }
@@ -44,9 +44,9 @@ fn half(a: bool, b: bool, nearer: bool, k: usize) -> usize
     }
 }
 
-// The index k of the half-open octant [k pi / 4, (k + 1) pi / 4) of y: the quadrant from the signs, then
-// the comparison of the magnitudes. Zero and NaN fall to 0. A sample lies in one quadrant at most, so
-// that the sum has one term at most.
+// C14: the index k of the octant [k pi / 4, (k + 1) pi / 4) of y: the quadrant from the signs, then the
+// comparison of the magnitudes. Zero and NaN give 0. A sample lies in one quadrant at most, so that the
+// sum has one term at most.
 pub fn octant(y: C32) -> usize
     ensures { λ r. ⌜ r ≡ octantOf y ⌝ }
 {
@@ -69,7 +69,7 @@ fn point8(y: C32) -> C32
     POINTS8[k]
 }
 
-// The point that y is held against: the octant's for 8-PSK. The others need none and take zero.
+// The point that y is compared with: that of its octant for 8-PSK (C16). The others need none and take zero.
 pub fn decide(constellation: CostasConstellation, y: C32) -> C32
     ensures { λ r. ⌜ r ≡ decisionOf constellation y ⌝ }
 {

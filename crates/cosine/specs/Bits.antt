@@ -1,4 +1,4 @@
--- "4,097 entries, entry j the f32 nearest to the cosine of j/4096 of a turn, entries 1024 and 3072 plus zero": their bit patterns, entry j at place j.
+-- C10: the cosine table's 4,097 entries as bit patterns, in order; both zeros have a plus sign.
 -- Written by oracle/cosine_table.py. Definitions only.
 use Prim.Native.Nat.{ℕ}
 use mathlib.Core.List.{List, [], _∷_}

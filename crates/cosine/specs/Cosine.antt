@@ -1,5 +1,6 @@
--- What a cosine is, said without real numbers: six laws that pin the cosine of each j/4096 of a turn, in any number system that has the laws listed here.
--- The real numbers and their cosine have them all, so whatever is proved of every `Numbers` and `Cosine` is so of them. Definitions only.
+-- What a cosine is, without real numbers: six laws that determine the cosine of each j/4096 of a turn, in any number
+-- system that has the laws listed here. The real numbers and their cosine have them all, so whatever is proved of
+-- every `Numbers` and `Cosine` holds of them. Definitions only.
 use mathlib.Core.Path.{_≡_}
 use Prim.Native.Nat.{ℕ, zero, suc, _+_, _-_, _≤_}
 use Rattle.ieee.specs.Fraction.{Fraction}
@@ -31,7 +32,8 @@ pub record Numbers : Type 1 where
   -- 0 < 1
   pub le-one : le nil one
   pub not-le-nil : ¬ (le one nil)
-  -- dividing both sides by a c of 1 or more keeps the order, and so does the square root of both, where neither was negative
+  -- dividing both sides by a c of 1 or more keeps the order, and so does the square root of both,
+  -- where neither was negative
   pub le-cancel : (a b c : R) → le one c → le (mul a c) (mul b c) → le a b
   pub le-root : (a b : R) → le nil a → le nil b → le (mul a a) (mul b b) → le a b
 

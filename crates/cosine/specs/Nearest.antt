@@ -1,4 +1,5 @@
--- What "the f32 nearest to y" is, for a y of any number system: no other f32 is as near. Definitions only.
+-- C10: what it is for an f32 to be nearest to y, a number of any number system: no other f32 is as near.
+-- Definitions only.
 use Prim.Native.Nat.{_+_, _*_}
 use lib.Dec.{T}
 use lib.Ieee.{Float, binary32, fits, lt}
@@ -14,8 +15,9 @@ middle q r = record {
   over = 2 * (q .over * r .over);
 }
 
--- x is a finite f32, and y lies strictly nearer to x than to any finite f32 that is another number: below the middle of x and each z above x, and above
--- the middle of x and each z below x. That y < c is said as "c ≤ y is not so", which is the same of real numbers. `nearest-once`: no two numbers are nearest.
+-- x is a finite f32, and y lies strictly nearer to x than to any finite f32 that is another number: below the middle
+-- of x and each z above x, and above the middle of x and each z below x. Here y < c is written as ¬ (c ≤ y), which is
+-- the same for real numbers. `nearest-once`: no two numbers are nearest.
 pub record Nearest (N : Numbers) (y : N .R) (x : Float) : Type 0 where
   pub held : T (fits binary32 x)
   pub number : T (finite x)

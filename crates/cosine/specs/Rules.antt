@@ -1,4 +1,4 @@
--- The rules that the cosine table obeys: what document 01 says is "proved over all entries", as a property of any reading `at` of entries 0 to 4096. Definitions only.
+-- C11: the rules of the cosine table, of any function `at` that gives the entries 0 to 4096. Definitions only.
 use mathlib.Core.Path.{_≡_}
 use Prim.Native.Nat.{ℕ, suc, _+_, _-_, _*_, _^_, _≤_, _<_}
 use lib.Dec.{T}
@@ -20,15 +20,15 @@ pub record Rules (at : ℕ → Float) : Type 0 where
   -- every entry is a finite f32
   pub held : (j : ℕ) → j ≤ 4096 → T (fits binary32 (at j))
   pub number : (j : ℕ) → j ≤ 4096 → T (finite (at j))
-  -- "entry 0 is 1 and equals 4096", "entries 1024 and 3072 plus zero"
+  -- a turn, from 1 to 1, and the two zeros of C10 with their plus sign
   pub start : at 0 ≡ one₀
   pub whole-turn : at 4096 ≡ at 0
   pub quarter : at 1024 ≡ zero₀
   pub three-quarters : at 3072 ≡ zero₀
-  -- "j + 2048 and 2048 - j negate j (zeros alike)"
+  -- half a turn on, and mirrored at a quarter turn, the sign changes; a zero may have either sign
   pub half-turn : (j : ℕ) → j ≤ 2048 → Opposite (at (j + 2048)) (at j)
   pub mirrored : (j : ℕ) → j ≤ 2048 → Opposite (at (2048 - j)) (at j)
-  -- "entries 0 to 2048 strictly fall"
+  -- in the first half each entry is above the next
   pub falls : (j : ℕ) → j < 2048 → T (lt (at (suc j)) (at j))
-  -- "twice a square less 1 is within 2^-22 of the entry at the doubled index (j to 2048)"
+  -- the double angle, up to 2^-22
   pub doubles : (j : ℕ) → j ≤ 2048 → Within 1 (2 ^ 22) (doubled (own (at j))) (own (at (2 * j)))

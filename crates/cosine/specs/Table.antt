@@ -1,4 +1,4 @@
--- The cosine table: entry j stands for the cosine of j/4096 of a turn. Definitions only.
+-- C10: the cosine table, whose entry j is the cosine of j/4096 of a turn. Definitions only.
 use Prim.Native.Nat.{ℕ}
 use mathlib.Core.List.{List, map}
 use lib.ListN.{getD}

@@ -1,4 +1,5 @@
--- What a run answers, with the output as it stands then, as an outcome of the definition; what of the input it reaches. Definitions only.
+-- What a run answers, with the output as it stands then, as an outcome of the definition; what of the input it
+-- reaches. Definitions only.
 use Prim.Native.Nat.{_*_, _/_}
 use mathlib.Core.List.{List}
 use lib.ListN.{length, take}

@@ -29,9 +29,9 @@ fn least(a: usize, b: usize) -> usize
     if a < b { a } else { b }
 }
 
-// The symbols that both buffers hold whole, turned back by the loop: as many output samples stand at the
-// front of the output then, and the rest is as found. The table is taken once a run and lent: each mention
-// of it would be stored anew.
+// The symbols that both buffers have whole, after the carrier is removed: as many output samples stand at the
+// front of the output then, and the rest is as found. The table is taken once a run and lent: each mention of
+// it would be stored anew.
 fn symbols(
     constellation: CostasConstellation,
     p: Params,
@@ -85,8 +85,8 @@ fn refused(n: Refusal, s: CostasState) -> Ran
     }
 }
 
-// One call. An odd count of f32 in the input or the output is refused, then lengths that differ, with
-// the same state and the output as found.
+// C1: one call. An odd count of f32 in the input or the output is refused, then lengths that differ, with the
+// same state and the output as found.
 pub fn run(s: CostasState, input: &[f32], output: &mut [f32]) -> Ran
     requires { ⌜ Given s ⌝ }
     ensures outcome { λ r. ⌜ answered r (now (output .exit)) ≡ called s (now (input .entry)) (now (output .entry)) ⌝ }

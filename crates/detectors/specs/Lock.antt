@@ -1,4 +1,4 @@
--- "The lock measure is a finite number or none. With a = p × p, b = q × q, t = a + b, g = a - b: …" and what it does to level and lock. In f32. Definitions only.
+-- C19 and C20: the lock measure, and what it does to level and lock. In f32. Definitions only.
 use mathlib.Core.Bool.{Bool, true, false, cond}
 use lib.Ieee.{Float, binary32, lt}
 use lib.Ieee.Scale.{finite}
@@ -16,21 +16,22 @@ abbrev pub square : Float → Float
 square x = x ⊗ x
 
 -- ---- the measures
--- "BPSK g / t"
+-- C19, BPSK: g / t
 unfoldable pub bpskMeasure : C32 → Float
 bpskMeasure y = let a = square (y .re) in let b = square (y .im) in (a ⊖ b) ⊘ (a ⊕ b)
 
--- "QPSK ((4 × a) × b - g × g) / (t × t)"
+-- C19, QPSK: of the squares a and b
 unfoldable pub quad : Float → Float → Float
 quad a b = ((four₀ ⊗ a) ⊗ b ⊖ square (a ⊖ b)) ⊘ square (a ⊕ b)
 
 unfoldable pub qpskMeasure : C32 → Float
 qpskMeasure y = quad (square (y .re)) (square (y .im))
 
--- "8-PSK r = p × dr + q × di, u = ((r × r) / t) × 2 - 1, w = u × u, ((8 × w) × (w - 1)) + 1"
+-- C19, 8-PSK: r, the part of the output along its point
 unfoldable pub along : C32 → C32 → Float
 along y d = y .re ⊗ d .re ⊕ y .im ⊗ d .im
 
+-- C19, 8-PSK: of the square of r and of t
 unfoldable pub fourfold : Float → Float → Float
 fourfold rr t =
     let u = (rr ⊘ t) ⊗ two₀ ⊖ one₀ in
@@ -45,24 +46,24 @@ measured Bpsk y d = bpskMeasure y
 measured Qpsk y d = qpskMeasure y
 measured Psk8 y d = psk8Measure y d
 
--- of an output held against its own point
+-- of an output and its own point
 abbrev pub measuredOwn : CostasConstellation → C32 → Float
 measuredOwn c y = measured c y (decisionOf c y)
 
--- "a finite number or none"
+-- C19: a measure that is not finite counts as none
 unfoldable pub metricOf : CostasConstellation → C32 → C32 → Metric
 metricOf c y d = let m = measured c y d in cond (finite m) (Number m) Nothing
 
 -- ---- level and lock
--- "level = flush(level + 0.01 × (m - level)), all f32"
+-- C20: the level after the measure m
 unfoldable pub smoothed : Float → Float → Float
 smoothed level m = flushed binary32 (level ⊕ decimal binary32 1 100 ⊗ (m ⊖ level))
 
--- "above 0.5 sets lock, below 0.3 clears it"
+-- C20: whether there is lock at this level, where there `was` or was not before
 unfoldable pub lockAfter : Bool → Float → Bool
 lockAfter was level = cond (lt half₀ level) true (cond (lt level (decimal binary32 3 10)) false was)
 
--- "A number m gives level …. None leaves both."
+-- C20: what a measure does to level and lock; without one nothing changes
 unfoldable pub watched : Lock → Metric → Lock
 watched k (Number m) = let l = smoothed (k .level) m in record { level = l; locked = lockAfter (k .locked) l }
 watched k Nothing = k

@@ -1,4 +1,5 @@
--- The quarter turns that a constellation may be turned by: k of the input and m of the phase, which its detector and its lock measure do not notice. Definitions only.
+-- Q3: the quarter turns that a constellation allows, k of the input and m of the phase: its detector and its lock
+-- measure are the same after them. Definitions only.
 use mathlib.Core.Path.{_≡_}
 use Prim.Native.Nat.{ℕ, _+_, _%_}
 use mathlib.Core.Bool.{true}
@@ -6,7 +7,7 @@ use lib.Dec.{T}
 use Rattle.constellations.specs.declared.kinds.CostasConstellation.{CostasConstellation}
 use Rattle.constellations.specs.declared.kinds.CostasConstellation.the-variants.{Bpsk, Qpsk, Psk8}
 
--- under BPSK k - m is even
+-- Q3: under BPSK the sum of both is even
 abbrev pub Allowed : CostasConstellation → ℕ → ℕ → Type 0
 Allowed Bpsk k m = (k + m) % 2 ≡ 0
 Allowed Qpsk k m = T true

@@ -11,7 +11,7 @@ ghost use Rattle.numbers.specs.Sign.{signOf};
 ghost use Rattle.constellations.specs.Octant.{sizeOf};
 ghost use Rattle.detectors.specs.Detector.{derotated, detected};
 
-// The derotated sample y = x exp(-j phi), with q the cosine and sine of phi.
+// C13: the derotated sample y = x exp(-j phi), with q the cosine and sine of phi.
 pub fn derotate(x: C32, q: Pair) -> C32
     ensures { λ r. ⌜ r ≡ derotated x q ⌝ }
 {
@@ -21,8 +21,8 @@ pub fn derotate(x: C32, q: Pair) -> C32
     }
 }
 
-// sign(x) * y without the multiplication on the chain from symbol to symbol: 1 y is y and -1 y is -y;
-// 0 y (zero and NaN x) is computed beside it.
+// sign(x) * y without the multiplication, which would lie on the dependency chain from symbol to symbol: 1 y
+// is y and -1 y is -y; 0 y (zero and NaN x) is computed beside it.
 fn sign_times(x: f32, y: f32) -> f32
     ensures { λ r. ⌜ r ≡ signOf x ⊗ y ⌝ }
 {
@@ -45,8 +45,9 @@ fn with_sign(x: f32, y: f32) -> f32
     if x < 0.0 { -y } else { y }
 }
 
-// The detector sign(y.re) y.im - sign(y.im) y.re. A part that is zero or NaN has a path of its own,
-// which is well foretold: so the choice of 0 does not lie on the chain from symbol to symbol.
+// C16, QPSK: the detector sign(y.re) y.im - sign(y.im) y.re. A part that is zero or NaN has a
+// branch of its own, which is predicted well: so the choice of 0 does not lie on the dependency
+// chain from symbol to symbol.
 fn detector4(y: C32) -> f32
     ensures { λ r. ⌜ r ≡ signOf (y .re) ⊗ y .im ⊖ signOf (y .im) ⊗ y .re ⌝ }
 {
@@ -56,7 +57,7 @@ fn detector4(y: C32) -> f32
     sign_times(y.re, y.im) - sign_times(y.im, y.re)
 }
 
-// The detector's value of y, held against the point d; it may not be finite.
+// C16: the detector's value of y with the point d; it may not be finite.
 pub fn detector(constellation: CostasConstellation, y: C32, d: C32) -> f32
     ensures { λ r. ⌜ r ≡ detected constellation y d ⌝ }
 {

@@ -5,7 +5,7 @@ use values::C32;
 ghost use mathlib.Core.Path.{_≡_};
 ghost use Rattle.detectors.specs.Lock.{bpskMeasure, qpskMeasure, psk8Measure, measured, metricOf, lockAfter, watched};
 
-// The lock measure: a finite number or none.
+// C19: a lock measure, or none where it is not finite.
 pub enum Metric {
     Number(f32),
     Nothing,
@@ -61,7 +61,7 @@ fn measure8(y: C32, d: C32) -> f32
     ((8.0 * w) * (w - 1.0)) + 1.0
 }
 
-// The measure of y, held against the point d; it may not be finite.
+// The measure of y with the point d; it may not be finite.
 fn measure(constellation: CostasConstellation, y: C32, d: C32) -> f32
     ensures { λ r. ⌜ r ≡ measured constellation y d ⌝ }
 {
@@ -72,8 +72,7 @@ fn measure(constellation: CostasConstellation, y: C32, d: C32) -> f32
     }
 }
 
-// The lock measure of y, held against the point d; none where it is not finite (silence, NaN,
-// overflow).
+// C19: the lock measure of y with the point d; none where it is not finite (silence, NaN, overflow).
 pub fn lock_metric(constellation: CostasConstellation, y: C32, d: C32) -> Metric
     ensures { λ r. ⌜ r ≡ metricOf constellation y d ⌝ }
 {
@@ -85,7 +84,7 @@ pub fn lock_metric(constellation: CostasConstellation, y: C32, d: C32) -> Metric
     }
 }
 
-// Whether there is lock at this level, where there was before or not.
+// C20: whether there is lock at this level, where there was before or not.
 fn hold(was: bool, level: f32) -> bool
     ensures { λ r. ⌜ r ≡ lockAfter was level ⌝ }
 {
@@ -98,7 +97,7 @@ fn hold(was: bool, level: f32) -> bool
     }
 }
 
-// The lock detector after the measure m. None leaves it as it is.
+// C20: the lock detector after the measure m. Without a measure it stays as it is.
 pub fn watch(k: Lock, m: Metric) -> Lock
     ensures { λ r. ⌜ r ≡ watched k m ⌝ }
 {

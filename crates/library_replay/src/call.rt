@@ -1,4 +1,4 @@
-// A sample call as a program in C makes it: the record is lent, and brought up to date where it stands.
+// A sample call as a program in C makes it: the record is lent, and the call replaces it where it stands.
 use plain_receiver::Receiver;
 use plain_receiver::ReceiverRan;
 use train_receiver::trr_receiver_receive;

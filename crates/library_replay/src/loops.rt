@@ -11,7 +11,7 @@ use train_receiver::trr_complex_set_up;
 use train_receiver::trr_real_readings;
 use train_receiver::trr_real_set_up;
 
-// The number of the receiver's set-up: all of timing's checks come before any of the carrier's.
+// The number of the receiver's set-up: that of timing's, and of the carrier's where timing accepts (R4).
 pub(crate) fn number_of(code: u32, t: TimingValues, c: CarrierValues) -> u32 {
     let timing = trr_complex_set_up(t);
     let carrier = trr_carrier_set_up(code, c);
@@ -21,14 +21,14 @@ pub(crate) fn number_of(code: u32, t: TimingValues, c: CarrierValues) -> u32 {
     carrier.number
 }
 
-// Whether two timing states tell the same detector, instant and pace.
+// Whether two timing states have the same detector, instant and pace.
 fn same(a: TimingReadings, b: TimingReadings) -> bool {
     a.values.ted == b.values.ted
         && same_f64(a.next_strobe, b.next_strobe)
         && same_f64(a.sps_estimate, b.sps_estimate)
 }
 
-// Whether both timing loops tell what the receiver's does.
+// Whether the readings of both timing loops are those of the receiver.
 pub(crate) fn timing_agrees(t: TimingValues, readings: TimingReadings) -> bool {
     let complex = trr_complex_set_up(t);
     let real = trr_real_set_up(t);
@@ -37,7 +37,7 @@ pub(crate) fn timing_agrees(t: TimingValues, readings: TimingReadings) -> bool {
     same(trr_complex_readings(x), readings) && same(trr_real_readings(y), readings)
 }
 
-// Whether the carrier tells the receiver's constellation and phase.
+// Whether the carrier has the receiver's constellation and phase.
 pub(crate) fn carrier_agrees(code: u32, c: CarrierValues, readings: CarrierReadings) -> bool {
     let made = trr_carrier_set_up(code, c);
     let x = made.state;

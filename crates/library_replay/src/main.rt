@@ -1,4 +1,4 @@
-// Replays recorded answers of the receiver through the functions that `train_receiver` exports, by the
+// P6: replays recorded answers of the receiver through the functions that `train_receiver` exports, by the
 // codes of bindings/c/train_receiver.h. Says how many lines were played of each kind, and how many differ
 // from what the library answers.
 //
@@ -41,7 +41,7 @@ fn count_played(
     played
 }
 
-// Plays a line, first damaged, which has to be seen, and then as it is.
+// Plays a line, first damaged, which must be counted as differing, and then as it is.
 fn play_line(
     last: Played,
     asked: Asked,

@@ -1,4 +1,4 @@
-// Comparing with a line what the receiver tells of itself.
+// Comparing the readings of a receiver with a line.
 use crate::slot::Slot;
 use answers::Operation;
 use answers::f32_bits;

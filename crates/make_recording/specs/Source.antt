@@ -1,4 +1,4 @@
--- The symbols of the sample recording and its carrier's phase. Definitions only.
+-- P5: the symbols of the sample recording and its carrier's phase. Definitions only.
 use Prim.Native.Nat.{ℕ, _+_, _*_, _/_, _%_, _^_}
 use Rattle.ieee.specs.Notation.{one₀}
 use Rattle.values.specs.declared.sample.C32.{C32}

@@ -1,4 +1,4 @@
--- The samples between two symbols: a raised-cosine transition, turned by the carrier. Definitions only.
+-- P5: the samples between two symbols: a raised-cosine transition, turned by the carrier. Definitions only.
 use Prim.Native.Nat.{ℕ, _+_, _*_, _%_, _^_}
 use mathlib.Core.List.{List, [], _∷_}
 use lib.Ieee.{Float}
@@ -22,7 +22,8 @@ turnedBy x q = record { re = x .re ⊗ q .c ⊖ x .im ⊗ q .s; im = x .re ⊗ q
 abbrev pub firstTurn : ℕ
 firstTurn = 0x999999a
 
--- sample j of the four that lead to the next symbol; the first stands 0.3 of a sample behind the last symbol's instant, and each next one an eighth of a turn on
+-- sample j of the four that lead to the next symbol; the first stands 0.3 of a sample behind the last symbol's
+-- instant, and each next one an eighth of a turn on
 abbrev pub sampleAt : List Float → Source → ℕ → C32
 sampleAt table s j =
     let way = pairAt table (firstTurn + j * 2 ^ 29) .c in

@@ -1,7 +1,7 @@
-// Writes a sample recording to standard output: 1,000 QPSK symbols, 4 samples each, as complex f32,
-// little-endian, real part first. The samples stand beside the symbol instants and the carrier is a
-// little off, so that both loops of the receiver have something to do. Arguments and a write that fails
-// are said on error output, and end the program.
+// P5: writes a sample recording to standard output: 1,000 QPSK symbols, 4 samples each, as complex f32,
+// little-endian, real part first. The samples stand beside the symbol instants and the carrier is a little
+// off, so that both loops of the receiver have something to correct. Arguments and a write that fails are
+// said on error output, and end the program.
 mod source;
 mod wave;
 

@@ -1,4 +1,4 @@
--- "idx is the top 12 phase bits, f the low 20 over 2^20; c = a + (b - a) × f over entries idx, idx + 1; s likewise at (idx + 3072) mod 4096." Definitions only.
+-- C12: the oscillator, cosine and sine of a phase by linear interpolation in a table. Definitions only.
 use Prim.Native.Nat.{ℕ, _+_, _/_, _%_, _^_}
 use mathlib.Core.List.{List}
 use lib.ListN.{getD}
@@ -21,7 +21,7 @@ between table idx f =
 abbrev pub quarterBefore : ℕ → ℕ
 quarterBefore idx = (idx + 3072) % 4096
 
--- cosine and sine of the phase p
+-- C12: cosine and sine of the phase p
 abbrev pub pairAt : List Float → ℕ → Pair
 pairAt table p =
     let idx = p / 2 ^ 20 in

@@ -20,10 +20,10 @@ pub struct Pair {
     pub s: f32,
 }
 
-// Cosine and sine of the phase p, whose 32 bits are one turn, by linear interpolation in the lent
-// table of cosines. The sine is the cosine a quarter turn before: p - 2^30 has the same low 20 bits
-// and the table index (idx + 3072) mod 4096. The fraction, the low 20 bits over 2^20, is made of its
-// bits: with 3 zeros behind them they are the digits of 1 + f.
+// C12: cosine and sine of the phase p, whose 32 bits are one turn, by linear interpolation in the lent table
+// of cosines. The sine is the cosine a quarter turn before: p - 2^30 has the same low 20 bits and the table
+// index (idx + 3072) mod 4096. The fraction f is made of its bits: with 3 zeros behind them the low 20 bits
+// of p are the digits of 1 + f.
 pub fn interp_f32_pair(table: &[f32; 4097], p: u32) -> Pair
     ensures { λ r. ⌜ r ≡ pairAt (now (table .entry)) p ⌝ }
 {

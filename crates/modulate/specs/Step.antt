@@ -1,4 +1,4 @@
--- "Phase adds floor(v × 2^32 + 1/2) mod 2^32, …; from 2^31 up it adds 4,294,967,295, from -2^31 down 0." Definitions only.
+-- C18: the phase step, in exact arithmetic and as the original computes it in f64. Definitions only.
 use Prim.Native.Nat.{ℕ, _+_, _-_, _*_, _%_, _^_, _≤_, _<_}
 use mathlib.Core.Bool.{Bool, true, false, cond}
 use lib.IntN.{pos}
@@ -14,7 +14,8 @@ wrapped false n = n % 2 ^ 32
 wrapped true n = (2 ^ 32 - n % 2 ^ 32) % 2 ^ 32
 
 -- ---- in exact arithmetic
--- ±a / c + 1/2 is this over 2 c, with the sign of ±a; between -1/2 and 0 it is 0, where the sum lies between 0 and 1/2
+-- ±a / c + 1/2 is this over 2 c, with the sign of ±a; between -1/2 and 0 it is 0, where the
+-- sum lies between 0 and 1/2
 abbrev pub halfMore : Bool → ℕ → ℕ → ℕ
 halfMore false a c = 2 * a + c
 halfMore true a c = 2 * a - c
@@ -23,13 +24,13 @@ halfMore true a c = 2 * a - c
 abbrev pub rounded : Bool → ℕ → ℕ → ℕ
 rounded s a c = wholeDown s (halfMore s a c) (2 * c)
 
--- the phase step of an f32 v; a NaN gives 0
+-- C18: the phase step of an f32 v; a NaN gives 0
 unfoldable pub phaseStep : Float → ℕ
 phaseStep nan = 0
 phaseStep (inf s) = cond s 0 0xffffffff
 phaseStep (fin s m e) = cond (leb (2 ^ 31 * down e) (m * up e)) (cond s 0 0xffffffff) (wrapped s (rounded s (m * up e * 2 ^ 32) (down e)))
 
--- ---- as the source computes it, in f64
+-- ---- as the original computes it, in f64
 -- the size from which a cast to an `i64` gives an end of its range, -2^63 or 2^63 - 1
 abbrev pub castEnd : ℕ
 castEnd = 2 ^ 63

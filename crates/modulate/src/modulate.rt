@@ -18,7 +18,7 @@ const CAST_END: f64 = 9_223_372_036_854_775_808.0;
 // 2^32: what is left over by it are the low 32 bits.
 pub(crate) const WRAP: u64 = 0x1_0000_0000;
 
-// 1 where n lies above v, else 0: a choice between two numbers, so that no branch turns on it.
+// 1 where n lies above v, else 0: a choice between two numbers, so that no branch depends on it.
 fn up(n: f64, v: f64) -> u32
     ensures { λ r. ⌜ r ≡ cond (lt v n) 1 0 ⌝ }
 {

@@ -45,12 +45,11 @@ fn at_most_63(k: u32) -> u32
     if k < 63 { k } else { 63 }
 }
 
-// The phase step of a v with |v| < 2^14, from its bits. v is ± m 2^(exp - 150) with a significand m of
-// 24 bits, so v 2^33 is S / 2^(156 - exp) with S = ± m 2^39. With q = floor(v 2^33), the source's
-// arithmetic shift of S, the step is floor((q + 1) / 2). Here s is S + 2^63, which has no sign, and what
-// the shift makes of 2^63 is taken off again, but for 1: that is what it makes of 2^63 - 1. 2^48 keeps
-// the difference above 0 and is 0 in the low 33 bits. Below exp = 94 the step is 0, and a shift by 63
-// gives it.
+// The phase step of a v with |v| < 2^14, from its bits. v is ± m 2^(exp - 150) with a significand m of 24
+// bits, so v 2^33 is S / 2^(156 - exp) with S = ± m 2^39. With q = floor(v 2^33), the original's arithmetic
+// shift of S, the step is floor((q + 1) / 2). Here s is S + 2^63, which has no sign, and what the shift makes
+// of 2^63 is taken off again, but for 1: that is what it makes of 2^63 - 1. 2^48 keeps the difference above 0
+// and is 0 in the low 33 bits. Below exp = 94 the step is 0, and a shift by 63 gives it.
 fn phase_step_bits(v: f32) -> u32
     requires { ⌜ T (lt (neg bitsRange) v) ⌝ }
     requires { ⌜ T (lt v bitsRange) ⌝ }
@@ -65,8 +64,8 @@ fn phase_step_bits(v: f32) -> u32
     (q1 / 2 % WRAP) as u32
 }
 
-// The phase step `(floor(f64(v) 2^32 + 0.5) as i64) as u32`. From 2^14 up in size, and for a NaN, it
-// is taken as `phase_step` takes it; below that from the bits.
+// C18: the phase step `(floor(f64(v) 2^32 + 0.5) as i64) as u32`. From 2^14 up in size, and for a NaN, it is
+// computed by `phase_step`; below that from the bits.
 pub fn phase_step_f32(v: f32) -> u32
     ensures { λ r. ⌜ r ≡ phaseStep v ⌝ }
 {

@@ -1,6 +1,6 @@
-// Replays recorded answers of the original, which stand on standard input: of its functions on
-// numbers, its oscillator and its phase steps. Says how many were played of each function, and how
-// many differ from what the crates `numbers`, `mix` (on the table of `tables`) and `modulate` compute.
+// P6: replays recorded answers of the original, which stand on standard input: of its functions on numbers,
+// its oscillator and its phase steps. Says how many were played of each function, and how many differ from
+// what the crates `numbers`, `mix` (on the table of `tables`) and `modulate` compute.
 //
 // A line has 53 bytes: a letter, then three words of 16 hexadecimal digits, each after a space, and
 // a line end. The words are the argument, the second argument or zeros, and the answer. An f32, a
@@ -28,7 +28,7 @@ fn play(table: &[f32; 4097], op: Operation, line: &[u8], tally: &mut [u64; 16])
     }
 }
 
-// Plays a line, and once more damaged, which has to be seen.
+// Plays a line, and once more damaged, which must be counted as differing.
 fn play_line(table: &[f32; 4097], line: &[u8], tally: &mut [u64; 16], damaged: &mut [u64; 16])
     ensures { λ _. ⌜ Tallied 1 (now (tally .entry)) (now (tally .exit)) ⌝ }
 {

@@ -1,4 +1,4 @@
--- The numbers that stand for the enums, in both directions. Definitions only.
+-- L4: the numbers that stand for the enums, in both directions. Definitions only.
 use Prim.Native.Nat.{ℕ}
 use mathlib.Core.Bool.{cond}
 use lib.Dec.{eqb}
@@ -7,6 +7,7 @@ use Rattle.timing.specs.declared.params.Ted.the-variants.{Gardner, MuellerMulle
 use Rattle.constellations.specs.declared.kinds.CostasConstellation.{CostasConstellation}
 use Rattle.constellations.specs.declared.kinds.CostasConstellation.the-variants.{Bpsk, Qpsk, Psk8}
 
+-- L4: a code that comes in; any but 0 is Mueller-Müller
 abbrev pub detectorOf : ℕ → Ted
 detectorOf code = cond (eqb code 0) Gardner MuellerMuller
 
@@ -14,6 +15,7 @@ abbrev pub detectorCode : Ted → ℕ
 detectorCode Gardner = 0
 detectorCode MuellerMuller = 1
 
+-- L4: a code that comes in; any but 0 and 1 is 8-PSK
 abbrev pub constellationOf : ℕ → CostasConstellation
 constellationOf code = cond (eqb code 0) Bpsk (cond (eqb code 1) Qpsk Psk8)
 

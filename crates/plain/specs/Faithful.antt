@@ -1,4 +1,5 @@
--- What it is for plain records to stand for states: nothing is lost on the way there and back. Definitions only.
+-- L1: what it is for plain records to stand for states: turning one into the other and back loses nothing.
+-- Definitions only.
 use mathlib.Core.Path.{_≡_}
 
 -- R: the records; S: the states; `Given` of each says that a set-up, a reset, a setter or a call has given it

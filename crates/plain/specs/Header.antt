@@ -1,4 +1,5 @@
--- The codes and numbers that bindings/c/train_receiver.h names: what a program in C has compiled into it. Definitions only.
+-- L4 and E1 to E8: the codes and numbers that bindings/c/train_receiver.h names, which a program in C has compiled
+-- into it. Definitions only.
 use mathlib.Core.Path.{_≡_}
 use Rattle.values.specs.declared.error.Refusal.the-variants.{Pace, Width, Damping, Pull, Slope, Gains, Uneven, Odd}
 use Rattle.values.specs.declared.progress.Progress.{Progress}

@@ -1,4 +1,4 @@
-// The numbers that stand for the enums, as bindings/c/train_receiver.h names them.
+// L4: the numbers that stand for the enums, as bindings/c/train_receiver.h names them.
 use constellations::CostasConstellation;
 use timing::Ted;
 ghost use mathlib.Core.Path.{_≡_};

@@ -14,15 +14,15 @@ use Rattle.plain_carrier.specs.declared.Carrier.{Carrier}
 use Rattle.plain_carrier.specs.declared.CarrierSetUp.{CarrierSetUp}
 use Rattle.plain.specs.Codes.{constellationOf, constellationCode}
 
--- the state that a record stands for
+-- L1: the state that a record stands for
 abbrev pub stateOf : Carrier → CostasState
 stateOf x = record { constellation = constellationOf (x .constellation); params = x .params; track = x .track }
 
--- the record of a state
+-- L1: the record of a state
 abbrev pub recordOf : CostasState → Carrier
 recordOf s = record { constellation = constellationCode (s .constellation); params = s .params; track = s .track }
 
--- what a refused set-up has in the state's place
+-- L3: zeros, in the place of the state of a refused set-up
 abbrev pub none : Carrier
 none =
     record {
@@ -31,7 +31,7 @@ none =
       track = record { nco = record { phase = 0; freq = zero₀ }; lock = record { level = zero₀; locked = false } };
     }
 
--- a set-up's answer
+-- L3: a set-up's answer
 abbrev pub setUpOf : SetUp → CarrierSetUp
 setUpOf (Ready s) = record { number = 0; state = recordOf s }
 setUpOf (Refused n) = record { number = numberOf n; state = none }
@@ -40,7 +40,8 @@ setUpOf (Refused n) = record { number = numberOf n; state = none }
 abbrev pub outcomeOf : ℕ → Carrier → List Float → Outcome
 outcomeOf n x ys = record { number = n; state = stateOf x; output = ys }
 
--- a record that a set-up, a reset, a setter or a call has given: the state is such a one, and the constellation's code is one of the three
+-- A9: a record that a set-up, a reset, a setter or a call has given: the state is such a one, and the constellation's
+-- code is one of the three
 pub record Given (x : Carrier) : Type 0 where
   pub state : carrier.Given (stateOf x)
   pub constellation : x .constellation < 3

@@ -23,19 +23,19 @@ use Rattle.plain_carrier.specs.Carrier as carrier
 abbrev pub valuesOf : TimingValues → declaredValues.TimingValues
 valuesOf v = record { sps = v .sps; ted = detectorOf (v .ted); «loop_bw» = v .«loop_bw»; damping = v .damping; «max_deviation» = v .«max_deviation»; «ted_gain» = v .«ted_gain» }
 
--- the receiver that a record stands for
+-- L1: the receiver that a record stands for
 abbrev pub receiverOf : Receiver → declaredReceiver.Receiver
 receiverOf x = record { timing = complex.stateOf (timing.syncOf (x .timing)); carrier = carrier.stateOf (x .carrier); count = x .count }
 
--- the record of a receiver
+-- L1: the record of a receiver
 abbrev pub recordOf : declaredReceiver.Receiver → Receiver
 recordOf r = record { timing = timing.recordOf (sync (r .timing)); carrier = carrier.recordOf (r .carrier); count = r .count }
 
--- what a refused set-up has in the receiver's place
+-- L3: zeros, in the place of the receiver of a refused set-up
 abbrev pub none : Receiver
 none = record { timing = timing.none; carrier = carrier.none; count = 0 }
 
--- a set-up's answer
+-- L3: a set-up's answer
 abbrev pub setUpOf : SetUp → ReceiverSetUp
 setUpOf (Ready r) = record { number = 0; receiver = recordOf r }
 setUpOf (Refused n) = record { number = numberOf n; receiver = none }
@@ -44,7 +44,8 @@ setUpOf (Refused n) = record { number = numberOf n; receiver = none }
 abbrev pub outcomeOf : Counts → Receiver → List Float → List Float → Outcome
 outcomeOf a x zs ys = record { number = a .number; consumed = a .consumed; produced = a .produced; receiver = receiverOf x; strobes = zs; output = ys }
 
--- a record that a set-up, a reset, the phase setting or a call has given: the receiver is such a one, and the codes are those of the enums
+-- A9: a record that a set-up, a reset, the phase setting or a call has given: the receiver is such a one, and the
+-- codes are those of the enums
 pub record Given (x : Receiver) : Type 0 where
   pub receiver : record-of.Given (receiverOf x)
   pub detector : x .timing .params .ted < 2

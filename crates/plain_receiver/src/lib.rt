@@ -18,12 +18,12 @@ ghost use Rattle.plain_receiver.specs.Receiver.{valuesOf, receiverOf, re
 pub struct Receiver {
     pub timing: ComplexTiming,
     pub carrier: Carrier,
-    // How many symbols were produced since the set-up or the last reset, up to the top of 32 bits.
+    // How many symbols were produced since the set-up or the last reset, up to 4,294,967,295 (R6).
     pub count: u32,
 }
 
-// The answer of a set-up: document 01's number, and the receiver where the number is 0. Where it is not,
-// there is no receiver: the record is all zeros, and no call may be given it.
+// L3: the answer of a set-up: its number, and the receiver where the number is 0. Where it is not, there is
+// no receiver: the record is all zeros, and no call may be given it.
 #[repr(C)]
 pub struct ReceiverSetUp {
     pub number: u32,

@@ -19,12 +19,12 @@ abbrev pub paramsRecord : Params → TimingParams
 paramsRecord p =
     record { sps = p .sps; ted = detectorCode (p .ted); «loop_bw» = p .«loop_bw»; damping = p .damping; «max_deviation» = p .«max_deviation»; «ted_gain» = p .«ted_gain»; kp = p .kp; ki = p .ki; lim = p .lim }
 
--- "A refused set-up yields its number and no state": what stands in the state's place
+-- L3: zeros, in the place of the parameters of a refused set-up
 abbrev pub noParams : TimingParams
 noParams =
     record { sps = zero₀; ted = 0; «loop_bw» = zero₀; damping = zero₀; «max_deviation» = zero₀; «ted_gain» = zero₀; kp = zero₀; ki = zero₀; lim = zero₀ }
 
--- "The next strobe is reported as (i - 3) + mu, the pace as omega."
+-- T21: the readings, beside the values of the set-up
 abbrev pub readingsOf : TimingParams → Clock → TimingReadings
 readingsOf p c =
     record {
@@ -33,7 +33,8 @@ readingsOf p c =
       «sps_estimate» = c .omega;
     }
 
--- a record that a set-up, a reset or a call has given: the state is such a one, and the detector's code is one of the two
+-- A9: a record that a set-up, a reset or a call has given: the state is such a one, and the
+-- detector's code is one of the two
 pub record Given {A : Type 0} (s : run.Sync A) (p : TimingParams) : Type 0 where
   pub state : run.Given s
   pub detector : p .ted < 2

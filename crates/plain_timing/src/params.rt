@@ -1,5 +1,5 @@
-// What both timing loops share: the values of a set-up, the parameters of a state, and the readings into
-// which no sample enters.
+// What both timing loops share: the values of a set-up, the parameters of a state, and the readings,
+// which depend on no sample.
 use plain::detector;
 use plain::detector_code;
 use timing::Clock;
@@ -7,7 +7,7 @@ use timing::Params;
 ghost use mathlib.Core.Path.{_≡_};
 ghost use Rattle.plain_timing.specs.Params.{paramsOf, paramsRecord, noParams, readingsOf};
 
-// What a timing loop is set up with.
+// T2: what a timing loop is set up with.
 #[repr(C)]
 pub struct TimingValues {
     // Samples per symbol, 2 to 1,000,000.
@@ -94,7 +94,7 @@ pub(crate) fn no_params() -> TimingParams
 
 // ---- Readings
 
-// What a timing state tells of itself.
+// The readings of a timing state.
 #[repr(C)]
 pub struct TimingReadings {
     // What it was set up with.
@@ -106,7 +106,7 @@ pub struct TimingReadings {
     pub sps_estimate: f64,
 }
 
-// The readings, into which no sample enters.
+// T21: the readings, which depend on no sample.
 pub fn readings(p: TimingParams, c: Clock) -> TimingReadings
     ensures { λ r. ⌜ r ≡ readingsOf p c ⌝ }
 {

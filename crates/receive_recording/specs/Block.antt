@@ -1,4 +1,4 @@
--- A block of the recording, received call by call. Definitions only.
+-- P2: a block of the recording, received call by call. Definitions only.
 use mathlib.Core.Path.{_≡_}
 use Prim.Native.Nat.{ℕ, zero, suc, _*_, _/_, _%_}
 use mathlib.Core.Bool.{Bool, true, _||_, cond}

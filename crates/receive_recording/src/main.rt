@@ -1,8 +1,7 @@
-// Receives a recording, which stands on standard input: complex f32 samples, little-endian, real part
-// first. Writes the number of each symbol as a digit, 64 to a line, and at the end how many symbols
-// there are, the pace, and whether the carrier is locked; and a remark if the recording has no samples,
-// or none but silent ones and such as are not finite. What goes wrong is said on error output, and ends
-// the program: arguments, a read or a write that fails, a refusal, an input that ends inside a sample.
+// P1 to P4: receives a recording, which stands on standard input: complex f32 samples, little-endian, real
+// part first. Writes the number of each symbol as a digit, 64 to a line, and at the end how many symbols
+// there are, the pace, and whether the carrier is locked; and a remark if no sample is finite and not silent.
+// What goes wrong is said on error output, and ends the program.
 mod block;
 mod input;
 mod output;
@@ -17,8 +16,8 @@ ghost use mathlib.Core.Path.{_≡_};
 ghost use mathlib.Core.Bool.{false};
 ghost use Rattle.receiver.specs.Record.{Given};
 
-// A proved loop has to end, and nothing says that the input does. So many blocks are read at most:
-// 2^33 samples, which have fewer symbols than the receiver can count.
+// A proved loop has to end, and nothing says that the input does. So many blocks are read at most: 2^33
+// samples (P1), which have fewer symbols than the receiver can count.
 const BLOCKS: u64 = 0x40_0000;
 
 // How many bytes a block of 2,048 samples has, how many f32 these are, and how many bytes a sample has.

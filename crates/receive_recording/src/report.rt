@@ -39,7 +39,7 @@ fn end_digits(count: u64) -> bool {
     }
 }
 
-// How many symbols there are, the pace, and whether the carrier is locked.
+// P2: how many symbols there are, the pace, and whether the carrier is locked.
 fn put_summary(well: bool, r: Receiver) -> bool {
     let count = put_decimal(well, r.count() as u64);
     let symbols = put(count, b" symbols, ");
@@ -52,7 +52,7 @@ fn put_summary(well: bool, r: Receiver) -> bool {
     }
 }
 
-// A recording in which there is nothing to receive gets a remark.
+// P3: a recording in which there is nothing to receive gets a remark.
 fn put_remark(well: bool, content: Content) -> bool {
     match content {
         Content::Empty => put(well, b"remark: the recording has no samples\n"),
@@ -67,7 +67,7 @@ pub(crate) fn summary(r: Receiver, content: Content) -> bool {
     put_remark(put_summary(digits, r), content)
 }
 
-// ---- On error output
+// ---- On error output (P4)
 
 // Says that arguments were given.
 pub(crate) fn arguments() {

@@ -1,4 +1,5 @@
--- The receiver record: which set-up is refused, which record a set-up, a reset or the phase setting gives, and what holds of every such record. Definitions only.
+-- The receiver record: which set-up is refused, which record a set-up, a reset or the phase setting gives, and what
+-- holds of every such record. Definitions only.
 use mathlib.Core.Path.{_≡_}
 use Prim.Native.Nat.{ℕ, _<_, _^_}
 use mathlib.Core.Bool.{true}
@@ -23,7 +24,7 @@ use Rattle.receiver.specs.declared.record.CarrierValues.{CarrierValues}
 use Rattle.receiver.specs.declared.record.SetUp.{SetUp}
 use Rattle.receiver.specs.declared.record.SetUp.the-variants.{Ready, Refused}
 
--- "Set up without a constellation it takes BPSK, the source's default."
+-- R3: the constellation where none is named
 abbrev pub unnamed : CostasConstellation
 unnamed = Bpsk
 
@@ -34,34 +35,35 @@ timingParams t = paramsWith (t .sps) (t .ted) (t .«loop_bw») (t .damping) (t .
 abbrev pub carrierParamsOf : CarrierValues → carrierParams.Params
 carrierParamsOf c = carrier.paramsOf (c .«loop_bw») (c .damping) (c .«max_offset»)
 
--- both loops fresh, and no symbol counted
+-- R7: both loops fresh, and no symbol counted
 abbrev pub fresh : CostasConstellation → Params → carrierParams.Params → Receiver
 fresh k p q = record { timing = stateOf (run.fresh complex p); carrier = carrier.fresh k q; count = 0 }
 
--- "Timing is set up first, all its checks before any of the carrier's."
+-- the tests of timing, and those of the carrier
 abbrev pub timingRows : TimingValues → List Row
 timingRows t = timing.rows (t .sps) (t .«loop_bw») (t .damping) (t .«max_deviation») (t .«ted_gain»)
 
 abbrev pub carrierRows : CarrierValues → List Row
 carrierRows c = carrier.rows (c .«loop_bw») (c .damping) (c .«max_offset»)
 
+-- R4: the tests of a set-up in their order, timing's first
 abbrev pub rows : TimingValues → CarrierValues → List Row
 rows t c = timingRows t ++ carrierRows c
 
--- a set-up's answer: "A refused set-up yields its number and no state."
+-- R4: a set-up's answer; a refused one has no receiver (A6)
 unfoldable pub opened : CostasConstellation → TimingValues → CarrierValues → SetUp
 opened k t c = firstOf Refused (rows t c) (Ready (fresh k (timingParams t) (carrierParamsOf c)))
 
--- its number (0: accepted)
+-- K7: its number (0: accepted)
 abbrev pub setUpNumber : SetUp → ℕ
 setUpNumber (Ready r) = 0
 setUpNumber (Refused n) = numberOf n
 
--- "A reset resets both loops and clears the count."
+-- R7: the receiver after a reset, which keeps the values of the set-up
 abbrev pub restarted : Receiver → Receiver
 restarted r = fresh (r .carrier .constellation) (r .timing .params) (r .carrier .params)
 
--- "The carrier's phase can be set here too."
+-- R8: the phase of the carrier is set, and all else stays
 abbrev pub phaseSet : Receiver → ℕ → Receiver
 phaseSet r phase = record { timing = r .timing; carrier = carrier.phaseSet (r .carrier) phase; count = r .count }
 
@@ -71,7 +73,7 @@ pub record SetUpWith (k : CostasConstellation) (t : TimingValues) (c : CarrierVa
   pub timing : r .timing .params ≡ timingParams t
   pub carrier : r .carrier .params ≡ carrierParamsOf c
 
--- ---- a record that a set-up, a reset, the phase setting or a run has given: all that a public call requires
+-- ---- A9: a given record, from a set-up, a reset, the phase setting or a run: all that a public call requires
 pub record Given (r : Receiver) : Type 0 where
   pub timing : run.Given (sync (r .timing))
   pub carrier : carrier.Given (r .carrier)

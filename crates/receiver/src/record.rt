@@ -8,16 +8,16 @@ ghost use mathlib.Core.Path.{_≡_};
 ghost use Rattle.timing.specs.Clock.{nextStrobe};
 ghost use Rattle.receiver.specs.Record.{unnamed, opened, restarted, phaseSet, Given, SetUpGiven};
 
-// Both loops, and how many symbols were produced since the set-up or the last reset.
+// R2: both loops, and how many symbols were produced since the set-up or the last reset.
 pub struct Receiver {
     pub timing: SymbolSyncState,
     // The constellation stands in it.
     pub carrier: CostasState,
-    // It stops at the top of its 32 bits.
+    // At most 4,294,967,295 (R6).
     pub count: u32,
 }
 
-// What the timing loop is set up with.
+// T2: what the timing loop is set up with.
 pub struct TimingValues {
     // Samples per symbol, 2 to 1,000,000.
     pub sps: f64,
@@ -32,7 +32,7 @@ pub struct TimingValues {
     pub ted_gain: f64,
 }
 
-// What the carrier loop is set up with, but for its constellation.
+// C2: what the carrier loop is set up with, but for its constellation.
 #[repr(C)]
 pub struct CarrierValues {
     // Loop bandwidth, normalized to the symbol rate, 0.0001 to 0.2.
@@ -51,8 +51,8 @@ pub enum SetUp {
 
 // ---- Set-up
 
-// A fresh receiver, or the number of what is wrong: all of timing's checks come before any of the
-// carrier's. `TimingValues` and `CarrierValues` have the ranges.
+// R4: a fresh receiver, or the number of what is wrong, with timing's values checked before the carrier's.
+// `TimingValues` and `CarrierValues` have the ranges.
 pub fn set_up(constellation: CostasConstellation, t: TimingValues, c: CarrierValues) -> SetUp
     ensures outcome { λ r. ⌜ r ≡ opened constellation t c ⌝ }
     ensures given { λ r. ⌜ SetUpGiven r ⌝ }
@@ -85,8 +85,7 @@ pub fn set_up(constellation: CostasConstellation, t: TimingValues, c: CarrierVal
     }
 }
 
-// A set-up that names no constellation takes BPSK, the source's default. `TimingValues` and `CarrierValues` have the
-// ranges.
+// R3: a set-up for BPSK, where no constellation is named. `TimingValues` and `CarrierValues` have the ranges.
 pub fn set_up_unnamed(t: TimingValues, c: CarrierValues) -> SetUp
     ensures outcome { λ r. ⌜ r ≡ opened unnamed t c ⌝ }
     ensures given { λ r. ⌜ SetUpGiven r ⌝ }
@@ -94,7 +93,7 @@ pub fn set_up_unnamed(t: TimingValues, c: CarrierValues) -> SetUp
     set_up(CostasConstellation::Bpsk, t, c)
 }
 
-// Resets both loops and clears the count.
+// R7: both loops as after the set-up, and a count of 0.
 pub fn reset(r: Receiver) -> Receiver
     requires { ⌜ Given r ⌝ }
     ensures state { λ z. ⌜ z ≡ restarted r ⌝ }
@@ -109,7 +108,7 @@ pub fn reset(r: Receiver) -> Receiver
     }
 }
 
-// Sets the carrier's phase, in units of 2^-32 turn.
+// R8: sets the carrier's phase, in units of 2^-32 turn.
 pub fn set_phase(r: Receiver, phase: u32) -> Receiver
     requires { ⌜ Given r ⌝ }
     ensures state { λ z. ⌜ z ≡ phaseSet r phase ⌝ }
@@ -124,7 +123,7 @@ pub fn set_phase(r: Receiver, phase: u32) -> Receiver
     }
 }
 
-// ---- Readings
+// ---- Readings (R9)
 
 impl Receiver {
     // The pace: the current estimate of the samples per symbol.
@@ -177,7 +176,7 @@ impl Receiver {
         self.carrier.constellation()
     }
 
-    // How many symbols were produced since the set-up or the last reset, up to the top of 32 bits.
+    // How many symbols were produced since the set-up or the last reset, up to 4,294,967,295 (R6).
     pub fn count(self) -> u32
         ensures { λ r. ⌜ r ≡ self .count ⌝ }
     {

@@ -27,7 +27,7 @@ pub(crate) fn set_phase(r: Receiver, phase: u64) -> Receiver
     receiver::set_phase(r, (phase % HIGH) as u32)
 }
 
-// The record with another count: no run of a replay gets to the top of it.
+// The record with another count: no run of a replay reaches the largest one.
 pub(crate) fn set_count(r: Receiver, count: u64) -> Receiver
     requires { ⌜ Given r ⌝ }
     ensures { λ z. ⌜ Given z ⌝ }

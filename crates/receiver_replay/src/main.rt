@@ -1,11 +1,10 @@
-// Replays recorded answers of the receiver, which stand on standard input: set-ups, resets, phases that
-// are set and runs, each field of the record after them, and symbol numbers. Says how many lines were
-// played of each kind, and how many differ from what `receiver`, `sample_calls` and `symbol_numbers`
-// compute.
+// P6: replays recorded answers of the receiver, which stand on standard input: set-ups, resets, phases that
+// are set and runs, each field of the record after them, and symbol numbers. Says how many lines were played
+// of each kind, and how many differ from what `receiver`, `sample_calls` and `symbol_numbers` compute.
 //
-// Beside the receiver of the lines a second one is played: it is set up, reset and run likewise, but each
-// of its samples is turned k quarter turns, and its phase is m quarter turns on. After each run the two
-// must be as document 01 says of turned recordings; that is one answer more.
+// Beside the receiver of the lines a second one is played: it is set up, reset and run likewise, but each of
+// its samples is turned k quarter turns, and its phase is m quarter turns on. After each run the two are
+// compared as Q7 and Q8 say; that is one answer more.
 //
 // A line has 53 bytes: a letter, then three words of 16 hexadecimal digits, each after a space, and
 // a line end. Two f32 of a sample stand in one word, the first in its high half; any other f32 stands in
@@ -91,7 +90,8 @@ fn play(
     }
 }
 
-// Plays a damaged operation, or one with other turns, which has to be seen. Nothing else is left of it.
+// Plays a damaged operation, or one with other turns, which must be counted as
+// differing. It has no other effect.
 fn play_damaged(
     pair: Pair,
     op: Operation,

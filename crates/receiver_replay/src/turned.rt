@@ -64,7 +64,7 @@ pub(crate) fn other(turns: Turns, turn: u64) -> Turns {
     turns
 }
 
-// The sample after so many quarter turns, each of which makes (re, im) into (-im, re).
+// Q1: the sample after so many quarter turns.
 fn turned(z: C32, turns: u64) -> C32 {
     match turns {
         0 => z,
@@ -83,7 +83,7 @@ fn turned(z: C32, turns: u64) -> C32 {
     }
 }
 
-// The phase after so many quarter turns.
+// Q2: the phase after so many quarter turns.
 pub(crate) fn phase_on(phase: u64, turns: u64) -> u64 {
     (phase % HIGH + turns % 4 * QUARTER) % HIGH
 }
@@ -98,12 +98,12 @@ pub(crate) fn turn_all(input: &mut [f32; 192], turns: u64) {
     }
 }
 
-// Whether two samples are equal as numbers.
+// N10: whether two samples are alike.
 fn alike(v: C32, z: C32) -> bool {
     alike_f32(v.re, z.re) && alike_f32(v.im, z.im)
 }
 
-// Whether so many samples of the second buffer are the first's, turned, and all behind them the same.
+// Q8: whether so many samples of the second buffer are the first's, turned, and all behind them the same.
 fn samples_turned(first: &[f32; 192], second: &[f32; 192], produced: u64, turns: u64) -> bool {
     let mut j: usize = 0;
     while j < SAMPLES {
@@ -131,7 +131,7 @@ pub(crate) fn buffers_turned(
         && samples_turned(output, other_output, produced, less)
 }
 
-// Whether the records agree but for the phases, which are turns apart.
+// Q7: whether the records agree but for the phases, which are turns apart.
 pub(crate) fn records_turned(a: Receiver, b: Receiver, turns: u64) -> bool {
     a.count() == b.count()
         && alike_f64(a.next_strobe(), b.next_strobe())

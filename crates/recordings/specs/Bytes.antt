@@ -1,4 +1,5 @@
--- Little-endian numbers: what a list of bytes spells, the least significant first, and the bytes of a number. Definitions only.
+-- Little-endian numbers: what a list of bytes spells, the least significant first, and the bytes of a number.
+-- Definitions only.
 use Prim.Native.Nat.{ℕ, zero, suc, _+_, _*_, _/_, _%_}
 use mathlib.Core.List.{List, [], _∷_}
 

@@ -1,4 +1,4 @@
--- Whether there is something to receive in a recording. Definitions only.
+-- P3: whether there is something to receive in a recording. Definitions only.
 use mathlib.Core.Bool.{Bool, true, false, not, _&&_, _||_, cond}
 use mathlib.Core.List.{List, [], _∷_}
 use lib.Ieee.{eq}

@@ -1,4 +1,4 @@
--- What a receiver is set up with that receives the sample recording; decimals are nearest. Definitions only.
+-- What a receiver is set up with for the sample recording (P1); decimals are the nearest f64. Definitions only.
 use lib.Ieee.{binary64}
 use Rattle.ieee.specs.Notation.{decimal}
 use Rattle.timing.specs.declared.params.Ted.{Ted}

@@ -1,4 +1,4 @@
--- A recording: complex samples of two f32, real part first, each f32 in four little-endian bytes. Definitions only.
+-- P1: a recording as bytes: complex samples of two f32, each in four little-endian bytes. Definitions only.
 use Prim.Native.Nat.{ℕ, _*_, _/_, min}
 use mathlib.Core.List.{List, [], _∷_, _++_}
 use lib.ListN.{length, take}

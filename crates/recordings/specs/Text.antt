@@ -1,4 +1,4 @@
--- Symbols as text: a digit for each, in lines of 64. Definitions only.
+-- P2: symbols as text: a digit for each, in lines of 64. Definitions only.
 use Prim.Native.Nat.{ℕ, _+_, _%_}
 use mathlib.Core.Bool.{cond}
 use mathlib.Core.List.{List, [], _∷_, map}

@@ -48,7 +48,7 @@ fn see(before: Content, x: C32) -> Content
     }
 }
 
-// The same with all samples of a slice.
+// P3: the same with all samples of a slice.
 pub fn content_with(before: Content, input: &[f32]) -> Content
     ensures { λ r. ⌜ r ≡ contentWith before (samples (now (input .entry))) ⌝ }
 {

@@ -1,4 +1,4 @@
-// What a receiver is set up with that receives the sample recording.
+// What a receiver is set up with for the sample recording (P1).
 use receiver::CarrierValues;
 use receiver::TimingValues;
 use timing::Ted;
@@ -18,8 +18,8 @@ const TIMING_DAMPING: f64 = 1.0;
 // The largest deviation of the pace from SPS, as a fraction of it.
 const DEVIATION: f64 = 0.01;
 
-// What Gardner's detector gives for each symbol of offset, where it is small: 2 pi, for parts of 1 and
-// -1 with smooth transitions between them.
+// The detector gain: what Gardner's detector gives for each symbol of offset, where it is small. It is 2 pi
+// for parts of 1 and -1 with smooth transitions between them.
 const DETECTOR_GAIN: f64 = 6.28;
 
 // ---- Carrier

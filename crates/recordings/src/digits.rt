@@ -16,7 +16,7 @@ fn digit(constellation: CostasConstellation, y: C32) -> u8
     (48 + receiver::symbol_number(constellation, y)) as u8
 }
 
-// Writes the digits of the first n samples of an output into the front of the text, as far as it has
+// P2: writes the digits of the first n samples of an output into the front of the text, as far as it has
 // places. Answers how many.
 pub fn write_digits(
     constellation: CostasConstellation,

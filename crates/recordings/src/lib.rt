@@ -1,7 +1,6 @@
-// Recordings as bytes and symbols as text: complex f32 samples from little-endian bytes and back, the
-// digits of symbols, laid out in lines, and a number in thousandths; whether there is something to
-// receive in a recording; and what a receiver of the sample recording is set up with. Nothing here
-// requires anything.
+// Recordings as bytes and symbols as text: complex f32 samples from little-endian bytes and back, the digits
+// of symbols, laid out in lines, and a number in thousandths; whether there is something to receive in a
+// recording; and what a receiver is set up with for the sample recording. Nothing here requires anything.
 mod bytes;
 mod content;
 mod decimals;

@@ -13,7 +13,7 @@ fn whole(bytes: usize, parts: usize) -> usize
     least(bytes / 8, parts / 2)
 }
 
-// Reads as many samples as the bytes have whole and the slice has places for, into the front of the
+// P1: reads as many samples as the bytes have whole and the slice has places for, into the front of the
 // slice. Answers how many.
 pub fn read_samples(bytes: &[u8], samples: &mut [f32]) -> usize
     ensures count { λ r. ⌜ r ≡ wholeSamples (length (now (bytes .entry))) (length (now (samples .entry))) ⌝ }

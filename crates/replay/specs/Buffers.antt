@@ -1,4 +1,5 @@
--- When a recorded line agrees with what the calls before it left: `values` (the words of the next set-up, and how many f32 were put in and how many compared) and the output. Definitions only.
+-- When a recorded line agrees with what the calls before it left: `values` (the words of the next set-up, and how
+-- many f32 were put in and how many compared) and the output. Definitions only.
 use Prim.Native.Nat.{ℕ, _+_, _*_, _^_}
 use mathlib.Core.Bool.{Bool, true, false, cond}
 use mathlib.Core.List.{List}

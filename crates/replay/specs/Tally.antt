@@ -16,7 +16,8 @@ oneMore l p = set l p ((getD l p 0 + 1) % 2 ^ 64)
 abbrev pub counted : List ℕ → ℕ → Bool → List ℕ
 counted l p agrees = let all = oneMore (oneMore l (placeOf p)) 14 in cond agrees all (oneMore all 15)
 
--- From one tally to another so many lines were counted, one after another, and nothing else was done. A line has one answer, or more than one.
+-- From one tally to another so many lines were counted, one after another, and nothing else was done. A line has one
+-- answer, or more than one.
 pub data Tallied : ℕ → List ℕ → List ℕ → Type 0 where
   none : {l : List ℕ} → Tallied 0 l l
   line : {n : ℕ} {l m : List ℕ} (p : ℕ) (agrees : Bool) → Tallied n l m → Tallied (suc n) l (counted m p agrees)

@@ -102,8 +102,8 @@ pub fn show_at(tally: &[u64; 16], place: usize, name: &[u8]) {
     report(name, tally[known(place)]);
 }
 
-// Writes the last counts: malformed lines, damaged lines that were seen to differ, all answers and those
-// that differ.
+// Writes the last counts: malformed lines, damaged lines that were found to differ, all
+// answers and those that differ.
 pub fn show_end(tally: &[u64; 16], damaged: &[u64; 16]) {
     show_at(tally, MALFORMED, b"malformed");
     report(

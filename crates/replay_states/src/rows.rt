@@ -24,7 +24,7 @@ fn row_agrees(words: &[u64], row: usize, op: Operation) -> bool
     words_agree(words[at], words[at + 1], words[at + 2], op)
 }
 
-// Of the integrator the number is compared, since the source leaves the sign of its zero open.
+// Of the integrator the number is compared (N10), since the original leaves the sign of its zero open.
 fn forgive(words: [u64; 21], op: Operation) -> [u64; 21]
     ensures { λ r. ⌜ r ≡ forgiven words op ⌝ }
 {

@@ -17,7 +17,7 @@ use Rattle.carrier.specs.Run as carrier
 use Rattle.receiver.specs.declared.record.Receiver.{Receiver}
 use Rattle.sample_calls.specs.declared.call.Ran.{Ran}
 
--- document 01's number (0: done), the counts, the receiver, and what the two lent buffers hold
+-- A2: the number of the answer (0: done), the counts, the receiver, and what the two lent buffers hold
 pub record Outcome : Type 0 where
   pub number : ℕ
   pub consumed : ℕ
@@ -33,18 +33,19 @@ outcomeOf a r zs ys = record { number = answer.number a; consumed = answer.consu
 abbrev pub answered : Ran → List Float → List Float → Outcome
 answered z zs ys = outcomeOf (z .answer) (z .receiver) zs ys
 
--- "It counts symbols in 32 bits and stops at the top."
+-- R6: the largest symbol count
 abbrev pub top : ℕ
 top = 0xffffffff
 
+-- R6: the symbol count after n symbols more
 unfoldable pub countAfter : ℕ → ℕ → ℕ
 countAfter count n = cond (ltb top (count + n)) top (count + n)
 
--- "A refused run yields its number, counts 0 and 0, the same state, and every buffer unchanged."
+-- A7: a refused call has the counts 0, and leaves the receiver and both buffers as they were
 abbrev pub refusedCall : Refusal → Receiver → List Float → List Float → Outcome
 refusedCall n r zs ys = record { number = numberOf n; consumed = 0; produced = 0; receiver = r; strobes = zs; output = ys }
 
--- "Timing into a strobe buffer, then the carrier over the strobes produced, into the output." "A run answers with timing's two counts."
+-- R1: an accepted call, the carrier's run over the strobes of timing's run; the counts are timing's (R5)
 unfoldable pub done : Receiver → List Float → List Float → List Float → Outcome
 done r xs zs ys =
     let t = doneComplex (sync (r .timing)) xs zs in
@@ -58,11 +59,11 @@ done r xs zs ys =
       output = written (c .output) ys;
     }
 
--- number 8: "a complex buffer has an odd count of f32"
+-- R10: whether any of the three buffers has an odd count of f32 (E8)
 abbrev pub oddAny : List Float → List Float → List Float → Bool
 oddAny xs zs ys = oddEither xs zs || odd ys
 
--- "in a run 8 before 7"; number 7: "the receiver's strobe buffer and output differ in length"
+-- R10: an odd count is refused (E8), then a strobe buffer and an output of different lengths (E7)
 unfoldable pub called : Receiver → List Float → List Float → List Float → Outcome
 called r xs zs ys = cond (oddAny xs zs ys) (refusedCall Odd r zs ys) (cond (eqb (length zs) (length ys)) (done r xs zs ys) (refusedCall Uneven r zs ys))
 

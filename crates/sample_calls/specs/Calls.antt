@@ -1,4 +1,5 @@
--- "Turned recordings": a list of sample calls, each on the receiver that the last one left, and what is claimed of a second list that is the first turned k times, from a receiver whose carrier is m quarter turns on. Definitions only.
+-- Q4 to Q9: a list of sample calls, each on the receiver that the call before left, and what is claimed of a second
+-- list, which is the first turned k times, from a receiver whose carrier is m quarter turns on. Definitions only.
 use mathlib.Core.Path.{_≡_}
 use Prim.Native.Nat.{ℕ, _+_, _*_, _/_}
 use mathlib.Core.Bool.{Bool, true}
@@ -22,14 +23,14 @@ use Rattle.receiver.specs.Record.{opened, restarted, SetUpWith, Given}
 use Rattle.sample_calls.specs.Call.{Outcome, called, accepts}
 
 -- ---- which receivers the lists start from
--- "Both receivers are set up with the same accepted values, … and are fresh, that is just set up or just reset"
+-- Q4: a fresh receiver, whose last step was a set-up with these values or a reset
 pub data Fresh (k : CostasConstellation) (t : TimingValues) (c : CarrierValues) : Receiver → Type 0 where
   just-set-up : {r : Receiver} → opened k t c ≡ Ready r → Fresh k t c r
   -- whatever it has received before
   just-reset : (r : Receiver) → Given r → SetUpWith k t c r → Fresh k t c (restarted r)
 
 -- ---- a list of calls
--- "A sample call lends input, strobe buffer and output."
+-- Q5: what a sample call lends
 pub record Call : Type 0 where
   pub input : List Float
   pub strobes : List Float
@@ -45,7 +46,7 @@ leftBy o = o .receiver
 abbrev pub whole : Call → Bool
 whole c = accepts (c .input) (c .strobes) (c .output)
 
--- "each call gets the receiver that the last one returned or left, a refused one too"
+-- Q5: the outcomes of a list of calls, and the receiver after it
 abbrev pub outcomes : Receiver → List Call → List Outcome
 outcomes r cs = outcomesBy callOf leftBy r cs
 
@@ -58,7 +59,7 @@ producedIn [] = 0
 producedIn (o ∷ os) = o .produced + producedIn os
 
 -- ---- the second list, and what is claimed of it
--- "The second list has the same buffer lengths and each input turned k times; where a call is refused, only lengths must agree."
+-- Q6: d is c with its input turned k times; of a refused call only the lengths count
 pub record TurnedCall (k : ℕ) (c d : Call) : Type 0 where
   pub inputs : length (d .input) ≡ length (c .input)
   pub strobes : length (d .strobes) ≡ length (c .strobes)
@@ -78,7 +79,7 @@ strobesOf o = take (o .produced) (samples (o .strobes))
 abbrev pub outputsOf : Outcome → List C32
 outputsOf o = take (o .produced) (samples (o .output))
 
--- "Equal are all numbers and counts answered in the list"; "Each produced strobe is the first list's turned k times, each output sample (k - m) mod 4 times."
+-- of one call: numbers and counts are equal (Q7), strobes are turned k times, outputs (k - m) mod 4 times (Q8)
 pub record TurnedOutcome (k m : ℕ) (q r : Outcome) : Type 0 where
   pub number : r .number ≡ q .number
   pub consumed : r .consumed ≡ q .consumed
@@ -86,13 +87,13 @@ pub record TurnedOutcome (k m : ℕ) (q r : Outcome) : Type 0 where
   pub strobes : AllTurned k (strobesOf q) (strobesOf r)
   pub outputs : AllTurned (turnsLess k m) (outputsOf q) (outputsOf r)
 
--- "and, after it, symbol count, instant ((i - 3) + mu), pace (omega), frequency, level and lock; the second phase is the first plus m × 2^30, modulo 2^32"
+-- Q7, after the lists: what is equal of the two receivers, and how far apart their phases are
 pub record SameReceiver (m : ℕ) (r s : Receiver) : Type 0 where
   pub count : s .count ≡ r .count
   pub clock : SameClock (sync (r .timing)) (sync (s .timing))
   pub carrier : SameCarrier m (r .carrier) (s .carrier)
 
--- "a single claim about the list"
+-- Q9: the one statement about two lists of calls, from the receivers r and s
 pub record TurnedList (k m : ℕ) (r s : Receiver) (cs ds : List Call) : Type 0 where
   pub answers : Each (TurnedOutcome k m) (outcomes r cs) (outcomes s ds)
   pub afterwards : SameReceiver m (after r cs) (after s ds)

@@ -1,4 +1,4 @@
--- What is promised of a sample call's counts and of the places that it leaves. Definitions only.
+-- A10: what holds of a sample call's counts and of the places that it leaves. Definitions only.
 use mathlib.Core.Path.{_≡_}
 use Prim.Native.Nat.{_*_, _/_, _≤_, _<_}
 use mathlib.Core.List.{List}

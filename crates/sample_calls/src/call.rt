@@ -1,5 +1,4 @@
-// A sample call: timing into the strobe buffer, then the carrier over the strobes produced, into the
-// output.
+// A sample call: timing writes strobes to one buffer, and of these the carrier writes symbols to another.
 use receiver::Receiver;
 use values::Answer;
 use values::Refusal;
@@ -18,7 +17,7 @@ pub struct Ran {
     pub receiver: Receiver,
 }
 
-// The count after so many symbols more; it stops at the top.
+// R6: the count after so many symbols more.
 fn counted(count: u32, symbols: usize) -> u32
     ensures { λ r. ⌜ r ≡ countAfter count symbols ⌝ }
 {
@@ -30,7 +29,7 @@ fn counted(count: u32, symbols: usize) -> u32
     }
 }
 
-// A call whose strobe buffer is as long as the output: no core refuses anything.
+// R1: a call whose strobe buffer is as long as the output. Neither loop refuses anything.
 fn accepted(r: Receiver, input: &[f32], strobes: &mut [f32], output: &mut [f32]) -> Ran
     requires { ⌜ Given r ⌝ }
     requires equal { ⌜ length (now strobes) ≡ length (now output) ⌝ }
@@ -65,7 +64,7 @@ fn refused(n: Refusal, r: Receiver) -> Ran
     }
 }
 
-// One call. An odd count of f32 in any buffer is refused, then a strobe buffer that is not as long as
+// R10: one call. An odd count of f32 in any buffer is refused, then a strobe buffer that is not as long as
 // the output, with the same receiver and every buffer as found.
 pub fn run(r: Receiver, input: &[f32], strobes: &mut [f32], output: &mut [f32]) -> Ran
     requires { ⌜ Given r ⌝ }
@@ -81,7 +80,7 @@ pub fn run(r: Receiver, input: &[f32], strobes: &mut [f32], output: &mut [f32]) 
     accepted(r, input, strobes, output)
 }
 
-// The entry over a receiver that the caller lends, which is brought up to date.
+// R2: one call over a receiver that the caller lends, and that the call replaces by the new one.
 pub fn receive(r: &mut Receiver, input: &[f32], strobes: &mut [f32], output: &mut [f32]) -> Answer
     requires { ⌜ Given (now r) ⌝ }
     ensures outcome { λ a. ⌜ outcomeOf a (now (r .exit)) (now (strobes .exit)) (now (output .exit)) ≡ called (now (r .entry)) (now (input .entry)) (now (strobes .entry)) (now (output .entry)) ⌝ }

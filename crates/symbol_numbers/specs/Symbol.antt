@@ -1,4 +1,4 @@
--- "Symbol numbers". Definitions only.
+-- R11 to R14: the number of a symbol. Definitions only.
 use Prim.Native.Nat.{ℕ, _/_}
 use mathlib.Core.Bool.{_&&_, _||_, cond}
 use lib.Ieee.{lt, eq}
@@ -8,11 +8,11 @@ use Rattle.constellations.specs.declared.kinds.CostasConstellation.{CostasConst
 use Rattle.constellations.specs.declared.kinds.CostasConstellation.the-variants.{Bpsk, Qpsk, Psk8}
 use Rattle.constellations.specs.Octant.{octantOf}
 
--- "BPSK 1 if re is negative, or zero with im negative, else 0."
+-- R11: 1 in the left half plane and on the lower half of the imaginary axis
 unfoldable pub bpskOf : C32 → ℕ
 bpskOf y = cond (lt (y .re) zero₀ || (eq (y .re) zero₀ && lt (y .im) zero₀)) 1 0
 
--- "8-PSK: the octant 0 to 7 of `octant`; QPSK: half of that octant, rounded down."
+-- R11, R13 and R12: by half plane, quadrant or octant
 unfoldable pub symbolOf : CostasConstellation → C32 → ℕ
 symbolOf Bpsk y = bpskOf y
 symbolOf Qpsk y = octantOf y / 2

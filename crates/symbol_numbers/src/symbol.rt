@@ -4,7 +4,7 @@ use values::C32;
 ghost use mathlib.Core.Path.{_≡_};
 ghost use Rattle.symbol_numbers.specs.Symbol.{bpskOf, symbolOf};
 
-// 1 to the left of the imaginary axis and on its lower half.
+// R11: 1 to the left of the imaginary axis and on its lower half.
 fn bpsk_number(y: C32) -> usize
     ensures { λ r. ⌜ r ≡ bpskOf y ⌝ }
 {
@@ -19,8 +19,8 @@ fn bpsk_number(y: C32) -> usize
     0
 }
 
-// The number of an output sample: the half plane under BPSK, the quadrant under QPSK, the octant under
-// 8-PSK. Silence reads as 0.
+// The number of an output sample: the half plane under BPSK (R11), the quadrant under QPSK (R13), the octant
+// under 8-PSK (R12); 0 for silence (R14).
 pub fn symbol_number(constellation: CostasConstellation, y: C32) -> usize
     ensures { λ r. ⌜ r ≡ symbolOf constellation y ⌝ }
 {

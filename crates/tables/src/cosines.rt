@@ -2,7 +2,7 @@
 ghost use mathlib.Core.Path.{_≡_};
 ghost use Rattle.cosine.specs.Table.{cosList};
 
-// Entry j is the f32 nearest to the cosine of j/4096 of a turn; entries 1024 and 3072 are plus zero.
+// C10: entry j is cos(2 pi j / 4096), the nearest f32. Both zeros have a plus sign.
 const COS_F32: [f32; 4097] = [
     1.0,
     0.9999988,

@@ -1,6 +1,6 @@
-// Replays recorded answers of the original's timing loop, which stand on standard input: set-ups, runs
-// on real and complex samples, resets, and each field of the state after them. Says how many lines were
-// played of each kind, and how many differ from what the crates `real_sync` and `complex_sync` compute.
+// P6: replays recorded answers of the original's timing loop, which stand on standard input: set-ups, runs on
+// real and complex samples, resets, and each field of the state after them. Says how many lines were played
+// of each kind, and how many differ from what the crates `real_sync` and `complex_sync` compute.
 //
 // A line has 53 bytes: a letter, then three words of 16 hexadecimal digits, each after a space, and
 // a line end. Two f32 stand in one word, the first in its high half; a real sample has zeros in the low
@@ -54,7 +54,7 @@ fn play(
     after
 }
 
-// Plays a damaged operation, which has to be seen. Nothing else is left of it.
+// Plays a damaged operation, which must be counted as differing. It has no other effect.
 fn play_damaged(
     slot: Slot,
     op: Operation,

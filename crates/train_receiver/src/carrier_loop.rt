@@ -1,4 +1,4 @@
-// The carrier loop.
+// The exported functions of the carrier loop.
 use plain_carrier::Carrier;
 use plain_carrier::CarrierSetUp;
 use plain_carrier::answer_of;
@@ -13,8 +13,8 @@ ghost use Rattle.plain.specs.Codes.{constellationOf};
 ghost use Rattle.plain_carrier.specs.Carrier.{stateOf, recordOf, setUpOf, outcomeOf, Given};
 ghost use Rattle.train_receiver.specs.Readings.{carrierReadings};
 
-// A fresh state, or the lowest number of what is wrong with the values, whose ranges stand at
-// `CarrierValues`.
+// L3: a fresh state, or the lowest number of what is wrong with the values, whose ranges
+// stand at `CarrierValues`.
 #[no_mangle]
 pub extern "C" fn trr_carrier_set_up(constellation: u32, v: CarrierValues) -> CarrierSetUp
     ensures outcome { λ r. ⌜ r ≡ setUpOf (opened (constellationOf constellation) (v .«loop_bw») (v .damping) (v .«max_offset»)) ⌝ }
@@ -28,7 +28,7 @@ pub extern "C" fn trr_carrier_set_up(constellation: u32, v: CarrierValues) -> Ca
     ))
 }
 
-// The state after construction: the parameters are kept.
+// L5: the state after construction (C7). The parameters are kept.
 #[no_mangle]
 pub extern "C" fn trr_carrier_reset(x: Carrier) -> Carrier
     requires { ⌜ Given x ⌝ }
@@ -38,7 +38,7 @@ pub extern "C" fn trr_carrier_reset(x: Carrier) -> Carrier
     record_of(carrier::reset(state_of(x)))
 }
 
-// Sets the phase, in units of 2^-32 turn.
+// L5: sets the phase (C8), in units of 2^-32 turn.
 #[no_mangle]
 pub extern "C" fn trr_carrier_set_phase(x: Carrier, phase: u32) -> Carrier
     requires { ⌜ Given x ⌝ }
@@ -48,7 +48,7 @@ pub extern "C" fn trr_carrier_set_phase(x: Carrier, phase: u32) -> Carrier
     record_of(carrier::set_phase(state_of(x), phase))
 }
 
-// Sets the frequency integrator, in cycles per symbol.
+// L5: sets the frequency integrator (C9), in cycles per symbol.
 #[no_mangle]
 pub extern "C" fn trr_carrier_set_frequency(x: Carrier, freq: f64) -> Carrier
     requires { ⌜ Given x ⌝ }
@@ -60,7 +60,7 @@ pub extern "C" fn trr_carrier_set_frequency(x: Carrier, freq: f64) -> Carrier
 
 // ---- Readings
 
-// What a carrier state tells of itself.
+// The readings of a carrier state.
 #[repr(C)]
 pub struct CarrierReadings {
     // 0 BPSK, 1 QPSK, 2 8-PSK.
@@ -77,7 +77,7 @@ pub struct CarrierReadings {
     pub locked: bool,
 }
 
-// What the state tells of itself.
+// L5: the readings of the state (C21).
 #[no_mangle]
 pub extern "C" fn trr_carrier_readings(x: Carrier) -> CarrierReadings
     ensures { λ r. ⌜ r ≡ carrierReadings x ⌝ }
@@ -100,8 +100,8 @@ pub extern "C" fn trr_carrier_readings(x: Carrier) -> CarrierReadings
 
 // ---- A call
 
-// One call over a record that the caller lends, which is brought up to date. The carrier alone has no
-// counts: every input sample gives an output sample.
+// L2: one call over a record that the caller lends, and that the call replaces by the new one. It answers a
+// number and no counts, since every input sample gives an output sample.
 #[no_mangle]
 pub extern "C" fn trr_carrier_run(x: &mut Carrier, input: &[f32], output: &mut [f32]) -> u32
     requires { ⌜ Given (now x) ⌝ }

@@ -1,4 +1,4 @@
-// Symbol timing recovery of complex samples, real part first in slices of f32.
+// The exported functions of symbol timing recovery of complex samples, real part first in slices of f32.
 use plain::detector;
 use plain_timing::TimingReadings;
 use plain_timing::TimingValues;
@@ -17,8 +17,8 @@ ghost use Rattle.plain.specs.Codes.{detectorOf};
 ghost use Rattle.plain_timing.specs.Params.{paramsOf, readingsOf};
 ghost use Rattle.plain_timing.specs.Complex.{syncOf, recordOf, setUpOf, outcomeOf, Given};
 
-// A fresh state, or the lowest number of what is wrong with the values, whose ranges stand at
-// `TimingValues`.
+// L3: a fresh state, or the lowest number of what is wrong with the values, whose ranges
+// stand at `TimingValues`.
 #[no_mangle]
 pub extern "C" fn trr_complex_set_up(v: TimingValues) -> ComplexSetUp
     ensures outcome { λ r. ⌜ r ≡ setUpOf (openedBy complexOps (tuned (v .sps) (detectorOf (v .ted)) (v .«loop_bw») (v .damping) (v .«max_deviation») (v .«ted_gain»))) ⌝ }
@@ -34,7 +34,7 @@ pub extern "C" fn trr_complex_set_up(v: TimingValues) -> ComplexSetUp
     ))
 }
 
-// The fresh state of the same parameters.
+// L5: the fresh state of the same parameters (T6).
 #[no_mangle]
 pub extern "C" fn trr_complex_reset(x: ComplexTiming) -> ComplexTiming
     requires { ⌜ Given x ⌝ }
@@ -44,7 +44,7 @@ pub extern "C" fn trr_complex_reset(x: ComplexTiming) -> ComplexTiming
     record_of(complex_sync::reset(state_of(x)))
 }
 
-// What the state tells of itself.
+// L5: the readings of the state (T21).
 #[no_mangle]
 pub extern "C" fn trr_complex_readings(x: ComplexTiming) -> TimingReadings
     ensures { λ r. ⌜ r ≡ readingsOf (x .params) (x .track .clock) ⌝ }
@@ -53,7 +53,7 @@ pub extern "C" fn trr_complex_readings(x: ComplexTiming) -> TimingReadings
     plain_timing::readings(p, x.track.clock)
 }
 
-// One call over a record that the caller lends, which is brought up to date.
+// L2: one call over a record that the caller lends, and that the call replaces by the new one.
 #[no_mangle]
 pub extern "C" fn trr_complex_run(
     x: &mut ComplexTiming,

@@ -1,4 +1,4 @@
-// Symbol timing recovery of real samples.
+// The exported functions of symbol timing recovery of real samples.
 use plain::detector;
 use plain_timing::TimingReadings;
 use plain_timing::TimingValues;
@@ -18,8 +18,8 @@ ghost use Rattle.plain.specs.Codes.{detectorOf};
 ghost use Rattle.plain_timing.specs.Params.{paramsOf, readingsOf};
 ghost use Rattle.plain_timing.specs.Real.{syncOf, recordOf, setUpOf, Given};
 
-// A fresh state, or the lowest number of what is wrong with the values, whose ranges stand at
-// `TimingValues`.
+// L3: a fresh state, or the lowest number of what is wrong with the values, whose ranges
+// stand at `TimingValues`.
 #[no_mangle]
 pub extern "C" fn trr_real_set_up(v: TimingValues) -> RealSetUp
     ensures outcome { λ r. ⌜ r ≡ setUpOf (openedBy realOps (tuned (v .sps) (detectorOf (v .ted)) (v .«loop_bw») (v .damping) (v .«max_deviation») (v .«ted_gain»))) ⌝ }
@@ -35,7 +35,7 @@ pub extern "C" fn trr_real_set_up(v: TimingValues) -> RealSetUp
     ))
 }
 
-// The fresh state of the same parameters.
+// L5: the fresh state of the same parameters (T6).
 #[no_mangle]
 pub extern "C" fn trr_real_reset(x: RealTiming) -> RealTiming
     requires { ⌜ Given x ⌝ }
@@ -45,7 +45,7 @@ pub extern "C" fn trr_real_reset(x: RealTiming) -> RealTiming
     record_of(real_sync::reset(state_of(x)))
 }
 
-// What the state tells of itself.
+// L5: the readings of the state (T21).
 #[no_mangle]
 pub extern "C" fn trr_real_readings(x: RealTiming) -> TimingReadings
     ensures { λ r. ⌜ r ≡ readingsOf (x .params) (x .track .clock) ⌝ }
@@ -54,7 +54,8 @@ pub extern "C" fn trr_real_readings(x: RealTiming) -> TimingReadings
     plain_timing::readings(p, x.track.clock)
 }
 
-// One call over a record that the caller lends, which is brought up to date. It is never refused.
+// L2: one call over a record that the caller lends, and that the call replaces by the new one.
+// It is never refused (T1).
 #[no_mangle]
 pub extern "C" fn trr_real_run(x: &mut RealTiming, input: &[f32], output: &mut [f32]) -> Progress
     requires { ⌜ Given (now x) ⌝ }

@@ -1,4 +1,4 @@
-// The receiver: both loops and a symbol count.
+// The exported functions of the receiver: both loops and a symbol count.
 use crate::carrier_loop::CarrierReadings;
 use crate::carrier_loop::trr_carrier_readings;
 use crate::complex_timing::trr_complex_readings;
@@ -22,8 +22,8 @@ ghost use Rattle.plain.specs.Codes.{constellationOf};
 ghost use Rattle.plain_receiver.specs.Receiver.{valuesOf, receiverOf, recordOf, setUpOf, outcomeOf, Given};
 ghost use Rattle.train_receiver.specs.Readings.{receiverReadings};
 
-// A fresh receiver, or the number of what is wrong: all of timing's checks come before any of the
-// carrier's. The ranges stand at `TimingValues` and `CarrierValues`.
+// L3: a fresh receiver, or the number of what is wrong, with timing's values checked before the carrier's
+// (R4). The ranges stand at `TimingValues` and `CarrierValues`.
 #[no_mangle]
 pub extern "C" fn trr_receiver_set_up(
     constellation: u32,
@@ -36,7 +36,8 @@ pub extern "C" fn trr_receiver_set_up(
     answer_of(receiver::set_up(plain::constellation(constellation), values_of(t), c))
 }
 
-// A set-up that names no constellation takes BPSK. The ranges stand at `TimingValues` and `CarrierValues`.
+// L3: a set-up for BPSK, where no constellation is named (R3). The ranges stand at
+// `TimingValues` and `CarrierValues`.
 #[no_mangle]
 pub extern "C" fn trr_receiver_set_up_unnamed(t: TimingValues, c: CarrierValues) -> ReceiverSetUp
     ensures outcome { λ z. ⌜ z ≡ setUpOf (opened unnamed (valuesOf t) c) ⌝ }
@@ -45,7 +46,7 @@ pub extern "C" fn trr_receiver_set_up_unnamed(t: TimingValues, c: CarrierValues)
     answer_of(receiver::set_up_unnamed(values_of(t), c))
 }
 
-// Resets both loops and clears the count.
+// L5: both loops as after the set-up, and a count of 0 (R7).
 #[no_mangle]
 pub extern "C" fn trr_receiver_reset(x: Receiver) -> Receiver
     requires { ⌜ Given x ⌝ }
@@ -55,7 +56,7 @@ pub extern "C" fn trr_receiver_reset(x: Receiver) -> Receiver
     record_of(receiver::reset(receiver_of(x)))
 }
 
-// Sets the carrier's phase, in units of 2^-32 turn.
+// L5: sets the carrier's phase (R8), in units of 2^-32 turn.
 #[no_mangle]
 pub extern "C" fn trr_receiver_set_phase(x: Receiver, phase: u32) -> Receiver
     requires { ⌜ Given x ⌝ }
@@ -67,16 +68,16 @@ pub extern "C" fn trr_receiver_set_phase(x: Receiver, phase: u32) -> Receiver
 
 // ---- Readings
 
-// What a receiver tells of itself.
+// The readings of a receiver.
 #[repr(C)]
 pub struct ReceiverReadings {
     pub timing: TimingReadings,
     pub carrier: CarrierReadings,
-    // How many symbols were produced since the set-up or the last reset, up to the top of 32 bits.
+    // How many symbols were produced since the set-up or the last reset, up to 4,294,967,295 (R6).
     pub count: u32,
 }
 
-// What the receiver tells of itself.
+// L5: the readings of the receiver (R9).
 #[no_mangle]
 pub extern "C" fn trr_receiver_readings(x: Receiver) -> ReceiverReadings
     ensures { λ r. ⌜ r ≡ receiverReadings x ⌝ }
@@ -92,7 +93,7 @@ pub extern "C" fn trr_receiver_readings(x: Receiver) -> ReceiverReadings
 
 // ---- A call
 
-// One call over a record that the caller lends, which is brought up to date.
+// L2: one call over a record that the caller lends, and that the call replaces by the new one.
 #[no_mangle]
 pub extern "C" fn trr_receiver_receive(
     x: &mut Receiver,
@@ -111,8 +112,8 @@ pub extern "C" fn trr_receiver_receive(
 
 // ---- Symbol numbers
 
-// The number of an output sample: the half plane under BPSK, the quadrant under QPSK, the octant under
-// 8-PSK. Silence reads as 0.
+// The number of an output sample (R11 to R14): the half plane under BPSK, the quadrant under QPSK, the octant
+// under 8-PSK; 0 for silence.
 #[no_mangle]
 pub extern "C" fn trr_symbol_number(constellation: u32, re: f32, im: f32) -> usize
     ensures { λ r. ⌜ r ≡ symbolOf (constellationOf constellation) (record { re = re; im = im }) ⌝ }

@@ -1,4 +1,5 @@
--- Lists compared element by element: those that are not equally long differ, and where they agree up to a place the rest decides. Assumes nothing.
+-- Lists compared element by element: those that are not equally long differ, and where they agree up to a place the
+-- rest decides. Assumes nothing.
 use mathlib.Core.Path.{_≡_, refl, sym, ap, _∙_}
 use mathlib.Core.Bool.{Bool, true, false, _&&_}
 use mathlib.Core.List.{List, [], _∷_}

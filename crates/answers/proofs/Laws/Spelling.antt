@@ -1,4 +1,5 @@
--- A number spelled digit by digit: one digit more, a byte that is no digit, the end, and how large it can be. Assumes nothing.
+-- A number spelled digit by digit: one digit more, a byte that is no digit, the end, and how large it can be.
+-- Assumes nothing.
 use mathlib.Core.Path.{_≡_}
 use mathlib.Core.List.{List}
 use Prim.Native.Nat.{ℕ, _+_, _*_, _^_, _≤_, _<_}

@@ -1,4 +1,5 @@
--- A run over buffers of any lengths, where the output has room for the input: all its symbols are carried; and of buffers of one length that hold whole samples it is a call that is not refused. Assumes nothing.
+-- A run over buffers of any lengths, where the output has room for the input: all its symbols are carried; and of
+-- buffers of one length that hold whole samples it is a call that is not refused. Assumes nothing.
 use mathlib.Core.Path.{_≡_, ap, _∙_}
 use Prim.Native.Nat.{_/_, _%_, _≤_}
 use native.Mathlib.Omega.{arith}

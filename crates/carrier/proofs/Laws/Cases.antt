@@ -1,4 +1,4 @@
--- The worked cases of the carrier loop hold. Assumes nothing.
+-- X9 to X12, X18 and X19 hold. Assumes nothing.
 use mathlib.Core.Path.{refl}
 use lib.Ieee.{ofBits, round, add, sub, mul, div, neg, lt, le}
 use Rattle.ieee.specs.Magnitude.{magnitude}

@@ -1,4 +1,6 @@
--- The gains are finite for every bandwidth and damping that a set-up accepts, so that the source's "gains must be finite" never occurs: each formula lies between the same formulas of the bounds, which the checker computes. Assumes nothing.
+-- A11 and C3: the gains are finite for every bandwidth and damping that a set-up accepts, so that the original's
+-- refusal of other gains never occurs. Each formula lies between the same formulas of the bounds, which the checker
+-- computes. Assumes nothing.
 use mathlib.Core.Path.{subst}
 use lib.Dec.{T}
 use lib.Ieee.{Float, binary64, ofBits, round, add, mul, div, le, lt}

@@ -1,4 +1,6 @@
--- What holds of every given state: a fresh state of an accepted set-up is given, and a given one stays so when its phase or its frequency is set, and in a call, refused or not, as each symbol leaves the phase in 32 bits and the frequency within its limit. Assumes nothing.
+-- A9 and C22: a fresh state of an accepted set-up is given, and a given one stays so when its phase or its frequency
+-- is set, and in a call, refused or not: each symbol leaves the phase in 32 bits and the frequency within its limit.
+-- Assumes nothing.
 use Prim.Native.Nat.{ℕ, _<_, _^_}
 use native.Mathlib.Nat.{mod-lt}
 use mathlib.Core.Bool.{Bool, true, false, not, cond}

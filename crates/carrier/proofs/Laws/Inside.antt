@@ -1,4 +1,5 @@
--- The source's `Internal` errors never occur: in every run from a given state each index lies inside its table. Assumes nothing.
+-- A11 and C22: the original's `Internal` errors never occur, since in every run from a given state each index lies
+-- inside its table. Assumes nothing.
 use mathlib.Core.Path.{_≡_, refl}
 use mathlib.Core.List.{List, [], _∷_}
 use native.Mathlib.Omega.{arith}

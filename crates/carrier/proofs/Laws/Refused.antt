@@ -1,4 +1,5 @@
--- Which calls are refused, with what number, and that a refused call leaves state and output as they were: "in a run 8 before 7". Assumes nothing.
+-- C1 and A7: which calls are refused, with what number, and that a refused call leaves state and output as they were.
+-- Assumes nothing.
 use mathlib.Core.Path.{_≡_, ap, _∙_}
 use mathlib.Core.Bool.{Bool, true, false, cond}
 use mathlib.Core.List.{List}

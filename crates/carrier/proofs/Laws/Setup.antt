@@ -1,4 +1,6 @@
--- A set-up of the carrier is refused exactly if a row is not passed, with the first such row's reason; and what an accepted one says of its parameters: each value lies in its range, and the limit is finite and not below 0. Assumes nothing.
+-- C4: a set-up of the carrier is refused exactly if a row is not passed, with the first such row's reason; and what
+-- an accepted one says of its parameters: each value lies in its range, and the limit is finite and not below 0.
+-- Assumes nothing.
 use mathlib.Core.Path.{_≡_, refl, ap, _∙_, subst}
 use mathlib.Core.Bool.{true}
 use lib.Dec.{T}

@@ -1,4 +1,5 @@
--- Document 01's claim on turned recordings, for the carrier alone: turned inputs and a phase set by quarters give the same numbers, frequency, level and lock, and turned outputs, over a list of calls of any length. Assumes nothing.
+-- Q10, for the carrier alone: turned inputs and a phase set by quarters give the same numbers, frequency, level and
+-- lock, and turned outputs, over a list of calls of any length. Assumes nothing.
 use mathlib.Core.Path.{_≡_, refl, sym, ap₂, subst}
 use Prim.Native.Nat.{ℕ, _+_, _*_, _%_, _^_, _≤_}
 use native.Mathlib.Omega.{arith}
@@ -104,7 +105,7 @@ keeps k m h s t c d r q =
     let o = tied-call k m h (r .allowed) (r .tied) q in
     (o .answer, record { allowed = subst (λ (x : CostasConstellation). Allowed x k m) (sym (called-constellation s (c .input) (c .output))) (r .allowed); tied = o .state })
 
--- from states just set up or just reset, the second with its phase set to m × 2^30
+-- Q10: from fresh states, the second with its phase set to m × 2^30
 pub turned-calls : (c : CostasConstellation) (p : Params) (k m : ℕ) → m ≤ 3 → Allowed c k m → (cs ds : List Call) → Each (TurnedCall whole k) cs ds → TurnedList k m (fresh c p) (phaseSet (fresh c p) (m * 2 ^ 30)) cs ds
 turned-calls c p k m h a cs ds r =
     let q = lists-keep callOf leftBy (keeps k m h) (record { allowed = a; tied = tied-fresh c p m h }) r in

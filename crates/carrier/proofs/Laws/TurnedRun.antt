@@ -1,4 +1,5 @@
--- The carrier loop on a turned recording, from one symbol to a whole run: frequency, level and lock stay the same, the phase stays m quarters on, and each output is turned. Assumes nothing.
+-- The carrier loop on a turned recording, from one symbol to a whole run: frequency, level and lock stay the same,
+-- the phase stays m quarters on, and each output is turned. Assumes nothing.
 use mathlib.Core.Path.{_≡_, ap₂, _∙_}
 use Prim.Native.Nat.{ℕ, _+_, _*_, _%_, _^_, _<_}
 use native.Mathlib.Omega.{arith}

@@ -1,4 +1,5 @@
--- A float lies below zero, at it, above it, or nowhere (a NaN), and its comparisons with zero depend on that alone. Assumes nothing.
+-- A float lies below zero, at it, above it, or nowhere (a NaN), and its comparisons with zero depend on that alone.
+-- Assumes nothing.
 use mathlib.Core.Path.{_≡_, refl, sym, ap, _∙_}
 use Prim.Native.Nat.{zero, suc}
 use mathlib.Core.Bool.{Bool, true, false, _||_}

@@ -1,4 +1,5 @@
--- The octant depends only on where both parts lie relative to zero and on the comparisons of their magnitudes: it is below 8, samples alike have the same, silence and NaN have 0, and the code's sum is it. Assumes nothing.
+-- The octant depends only on where both parts lie relative to zero and on the comparisons of their magnitudes: it is
+-- below 8, samples alike have the same, silence and NaN have 0, and the code's sum is it. Assumes nothing.
 use mathlib.Core.Path.{_≡_, refl, sym, _∙_}
 use Prim.Native.Nat.{ℕ, zero, _+_, _<_}
 use native.Mathlib.Omega.{arith}
@@ -113,7 +114,7 @@ module _ (y : C32) {m n : Float} (p : m ≡ sizeOf (y .re)) (q : n ≡ sizeOf (y
       ∙ sum-is (class (y .re)) (class (y .im)) (wide y) (tall y)
       ∙ sym (octant-by y)
 
--- ---- "silence and NaN take point 0"
+-- ---- C14: octant 0 of a NaN and of silence
 by-none : (a : Class) (w t : Bool) → octantBy a none w t ≡ 0
 unfolding octantBy
 by-none low w t = refl

@@ -1,4 +1,5 @@
--- A quarter turn moves the octant two places on, but for silence, which stays where it is, and for a NaN. Assumes nothing.
+-- A quarter turn moves the octant two places on, but for silence, which stays where it is, and for a NaN.
+-- Assumes nothing.
 use mathlib.Core.Path.{_≡_, refl, sym, ap, _∙_}
 use Prim.Native.Nat.{ℕ, _+_, _%_}
 use mathlib.Core.Bool.{Bool, true, false, cond}

@@ -1,4 +1,5 @@
--- The eight points: a quarter turn moves each two places on, and their parts are entries of the cosine table. Assumes nothing.
+-- The eight points: a quarter turn moves each two places on, and their parts are entries of the cosine table.
+-- Assumes nothing.
 use mathlib.Core.Path.{_≡_, refl, ap}
 use mathlib.Core.List.{List, [], _∷_}
 use Prim.Native.Nat.{ℕ, zero, suc, _+_, _*_, _%_, _<_}
@@ -26,7 +27,8 @@ pub points-turn : (k : ℕ) → k < 8 → pointAt ((k + 2) % 8) ≡ turn (pointA
 unfolding points8 ofBits neg
 points-turn = agree 8 _ _ refl
 
--- ---- point k stands at 2k + 1 sixteenths of a turn: the table's cosine there is its real part, and the one a quarter turn before is its imaginary part
+-- ---- C15: point k stands at 2k + 1 sixteenths of a turn. Its real part is the table's cosine there, and its
+-- imaginary part the cosine a quarter turn before
 pub points-are-cosines : (k : ℕ) → k < 8 → pointAt k ≡ record { re = cosAt ((2 * k + 1) * 256 % 4096); im = cosAt (((2 * k + 1) * 256 + 3072) % 4096) }
 unfolding points8 ofBits neg cosList cosBits
 points-are-cosines = agree 8 _ _ refl

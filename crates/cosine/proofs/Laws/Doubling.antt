@@ -1,5 +1,5 @@
--- A test of a fraction against a cosine, in whole numbers: the angle is doubled until its cosine is known. What passes the test is so of every cosine.
--- Assumes nothing.
+-- A test of a fraction against a cosine, in whole numbers: the angle is doubled until its cosine is known. What
+-- passes the test is so of every cosine. Assumes nothing.
 use mathlib.Core.Path.{_≡_, sym, ap, _∙_, subst}
 use mathlib.Core.Bool.{Bool, true, false, not}
 use Prim.Native.Nat.{ℕ, zero, suc, _+_, _-_, _*_, _^_, _/_, _≤_, _<_}
@@ -38,8 +38,9 @@ abbrev squared : Bool → ℕ → ℕ → ℕ
 squared true a c = suc (2 * (a * a) * grain / (c * c))
 squared false a c = 2 * (a * a) * grain / (c * c)
 
--- one step, where `rest` is the test at a doubled or reflected angle. In the first quarter the cosine is not negative, and
--- (p - n) / c is at most that if it is not positive, or if twice its square less 1 is at most the cosine of twice the angle.
+-- one step, where `rest` is the test at a doubled or reflected angle. In the first quarter the cosine is not
+-- negative, and (p - n) / c is at most that if it is not positive, or if twice its square less 1 is at most the
+-- cosine of twice the angle.
 unfoldable pub double : Test → Bool → Test
 double rest true s j p n c = s
 double rest false s j p n c = rest s (j + j) (squared s (p - n) c) grain grain

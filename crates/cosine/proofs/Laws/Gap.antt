@@ -1,5 +1,6 @@
--- Another value that the format holds lies at least a last place away: if x is a whole number of 1 / 2^k, and more than 2^(prec - 1) of them in size, every
--- other value of the format is at least 1 / 2^k above or below it. Assumes nothing.
+-- Another value that the format holds lies at least a last place away: if x is a whole number of 1 / 2^k, and more
+-- than 2^(prec - 1) of them in size, every other value of the format is at least 1 / 2^k above or below it.
+-- Assumes nothing.
 use mathlib.Core.Path.{_≡_, refl, sym, ap, _∙_, subst}
 use mathlib.Core.Logic.{_⊎_, inl, inr}
 use mathlib.Core.Bool.{true, false}

@@ -1,5 +1,6 @@
--- Each entry of the table is the f32 nearest to the true cosine. One test, computed over the whole table, shows that the cosine lies within half of the
--- entry's last place, with room to spare; every other f32 is a last place away at least. Assumes nothing.
+-- C10: each entry of the table is the f32 nearest to the true cosine. One test, computed over the whole table,
+-- shows that the cosine lies within less than half of the entry's last place; every other f32 is at least one last
+-- place away. Assumes nothing.
 use mathlib.Core.Path.{subst}
 use mathlib.Core.Bool.{Bool, true, false, _&&_}
 use Prim.Native.Nat.{ℕ, suc, _+_, _-_, _*_, _^_, _≤_, _<_}
@@ -53,7 +54,8 @@ within-nearest N y x h e held number low high a b = record {
   above = λ z f t l k. apart N y (middle (own x) (own z)) (lowered (own x) h e) k low (middle-below (own x) (own z) h e (den-pos x) (b z f t l));
 }
 
--- ---- how near the test looks: within `slack` of the `parts` of a last place, which is half of a place less 1/8192 of that half
+-- ---- the test's bound: within `slack` of the `parts` of a last place, which is half of a place
+-- less 1/8192 of that half
 abbrev parts : ℕ
 parts = 2 ^ 14
 

@@ -1,4 +1,5 @@
--- The nearest f32 is one: where any two numbers can be compared, as real numbers can, two floats nearest to y are the same number. Assumes nothing.
+-- The nearest f32 is one: where any two numbers can be compared, as real numbers can, two floats nearest to y are the
+-- same number. Assumes nothing.
 use mathlib.Core.Path.{_≡_, subst}
 use mathlib.Core.Logic.{_⊎_, inl, inr}
 use native.Mathlib.Nat.{add-comm, mul-comm}

@@ -1,5 +1,6 @@
--- The cosine table obeys its rules. One test, computed over the whole table: it walks the table beside itself moved on, reversed and thinned, and indexes nothing.
--- What the test says at each index is shown of any list, so that no goal holds the table. Assumes nothing.
+-- C11: the cosine table has its rules. One test, computed over the whole table: it compares the table with itself
+-- shifted, reversed and with every other entry left out, and uses no index. What the test says at each index is shown
+-- of any list, so that no goal contains the table. Assumes nothing.
 use mathlib.Core.Path.{_≡_, refl, subst}
 use mathlib.Core.Bool.{Bool, _&&_}
 use mathlib.Core.List.{List, reverse}

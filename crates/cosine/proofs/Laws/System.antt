@@ -1,4 +1,5 @@
--- Whole numbers in any number system: sums, products and the order carry over, the strict order too. A number against two fractions. Assumes nothing.
+-- Whole numbers in any number system: sums, products and the order carry over, the strict order too. A number against
+-- two fractions. Assumes nothing.
 use mathlib.Core.Path.{_≡_, sym, ap, _∙_, subst}
 use Prim.Native.Nat.{ℕ, zero, suc, _+_, _-_, _*_, _≤_, _<_}
 use native.Mathlib.Nat.{add-zero, add-suc, mul-suc, mul-zero, mul-comm}

@@ -1,4 +1,5 @@
--- The loop over the symbols: what the definition makes of the rest of the input, stored behind what is done, is what it makes of the whole. Assumes nothing.
+-- The loop over the symbols: what the definition makes of the rest of the input, stored behind what is done, is what
+-- it makes of the whole. Assumes nothing.
 use mathlib.Core.Path.{_≡_, refl, sym, ap, _∙_, subst}
 use Prim.Native.Nat.{ℕ, suc, _+_, _*_, _/_, _^_, _≤_, _<_, min}
 use native.Mathlib.Nat.{zero-add}

@@ -1,4 +1,5 @@
--- A quarter turn of the input turns the derotated sample, and one of the oscillator turns it back: k of the one and m of the other come to k - m. Assumes nothing.
+-- A quarter turn of the input turns the derotated sample, and one of the oscillator turns it back: k of the one and m
+-- of the other come to k - m. Assumes nothing.
 use mathlib.Core.Path.{_≡_, _∙_, subst}
 use Prim.Native.Nat.{ℕ, zero, suc, _+_, _*_}
 use native.Mathlib.Nat.{suc-add}

@@ -1,4 +1,5 @@
--- 8-PSK: the detector and the lock measure do not notice a quarter turn, nor a zero's sign. Assumes nothing.
+-- 8-PSK: a quarter turn leaves the detector and the lock measure as they are, and so does a zero's sign.
+-- Assumes nothing.
 use mathlib.Core.Path.{_≡_, refl, ap, _∙_}
 use lib.Ieee.{Float, nan, binary32, neg, add, mul}
 use Rattle.ieee.specs.Alike.{Alike}

@@ -1,4 +1,5 @@
--- The lock detector: the turns that a constellation allows leave the lock measure as it is, and levels alike stay alike under it, with the same lock. Assumes nothing.
+-- The lock detector: the turns that a constellation allows leave the lock measure as it is, and levels alike stay
+-- alike under it, with the same lock. Assumes nothing.
 use mathlib.Core.Path.{_≡_, ap}
 use Prim.Native.Nat.{ℕ, _+_, _*_}
 use mathlib.Core.Bool.{Bool, cond}

@@ -1,5 +1,6 @@
--- QPSK's lock measure does not notice a quarter turn: ((4 × a) × b - g × g) / (t × t) is the same with the squares a and b changed over.
--- Below 2^126 both 4 × a and 4 × b are exact; from there up the measure is NaN either way round. Assumes nothing.
+-- A quarter turn leaves QPSK's lock measure as it is: ((4 × a) × b - g × g) / (t × t) is the same with the squares a
+-- and b exchanged. Below 2^126 both 4 × a and 4 × b are exact; from there up the measure is NaN either way round.
+-- Assumes nothing.
 use mathlib.Core.Path.{_≡_, refl, sym, ap, _∙_}
 use mathlib.Core.Logic.{_⊎_, inl, inr}
 use Prim.Native.Nat.{ℕ, _+_, _*_, _^_, _<_}

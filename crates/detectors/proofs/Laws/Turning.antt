@@ -1,4 +1,5 @@
--- No detector and no lock measure notices the turns of a sample that its constellation allows. Assumes nothing.
+-- The turns of a sample that its constellation allows (Q3) leave each detector and each lock measure as they are.
+-- Assumes nothing.
 use mathlib.Core.Path.{_≡_, refl, _∙_}
 use Prim.Native.Nat.{ℕ, zero, suc, _+_, _*_, _%_}
 use native.Mathlib.Omega.{arith}

@@ -1,4 +1,5 @@
--- `library_replay::play_lines` counts each line that it plays. The loop's invariant: a call of the library has given the receiver, and so many lines are counted. The measure is how many may still come. Assumes nothing.
+-- `library_replay::play_lines` counts each line that it plays. The loop's invariant: a call of the library has given
+-- the receiver, and so many lines are counted. The measure is how many may still come. Assumes nothing.
 use Prim.Native.Nat.{_-_, _^_}
 use borrow.Author.Needs.{needs}
 use Rattle.library_replay.specs.Slot.{SlotGiven}

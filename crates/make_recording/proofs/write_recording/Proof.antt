@@ -1,4 +1,5 @@
--- `make_recording::write_recording` is safe and ends: the measure is the count of symbols that are left. Assumes nothing.
+-- `make_recording::write_recording` is safe and ends: the measure is the count of symbols that are left.
+-- Assumes nothing.
 use mathlib.Core.Bool.{true}
 use lib.Dec.{T}
 use borrow.Author.Needs.{needs}

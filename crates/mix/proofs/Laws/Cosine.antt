@@ -1,4 +1,5 @@
--- The oscillator over the cosine table: at the phase 0 it is (1, 0), half an entry on it is midway, and m quarter turns on the phase turn it m times. Assumes nothing.
+-- The oscillator over the cosine table: at the phase 0 it is (1, 0), half an entry on it is midway, and m quarter
+-- turns on the phase turn it m times. Assumes nothing.
 use mathlib.Core.Path.{_≡_, refl}
 use Prim.Native.Nat.{ℕ, _^_, _<_}
 use lib.Ieee.{binary32, round, add, sub, mul, ofBits}

@@ -1,4 +1,5 @@
--- The low 20 bits of a phase over 2^20: 1 with these bits as its digits, less 1, gives it, and nothing is lost. Assumes nothing.
+-- The low 20 bits of a phase over 2^20: 1 with these bits as its digits, less 1, gives it, and nothing is lost.
+-- Assumes nothing.
 use mathlib.Core.Path.{_≡_, refl, sym, ap, _∙_, subst}
 use Prim.Native.Nat.{ℕ, zero, suc, _+_, _-_, _*_, _%_, _^_, _<_}
 use native.Mathlib.Omega.{arith}

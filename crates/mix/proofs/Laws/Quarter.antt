@@ -1,5 +1,5 @@
--- A quarter turn on the phase makes the pair (c, s) into (-s, c), numbers alike, and m of them repeat it. Shown of any table whose entries half a turn apart are
--- opposites. Assumes nothing.
+-- A quarter turn on the phase makes the pair (c, s) into (-s, c), numbers alike, and m of them repeat it. Shown of
+-- any table whose entries half a turn apart are opposites. Assumes nothing.
 use mathlib.Core.Path.{_≡_, subst}
 use Prim.Native.Nat.{ℕ, zero, suc, _+_, _-_, _*_, _/_, _%_, _^_, _<_}
 use native.Mathlib.Omega.{arith}

@@ -1,4 +1,4 @@
--- The worked cases of the phase step hold. Assumes nothing.
+-- X5 to X8 hold. Assumes nothing.
 use mathlib.Core.Path.{refl}
 use Rattle.modulate.specs.Step.{phaseStep}
 use Rattle.modulate.specs.Cases.{Cases}

@@ -1,5 +1,5 @@
--- The phase step from the fields of an f32's bits: the value that they stand for, how large the exponent's field is below 2^14, and that the code's quotient gives the step.
--- Assumes nothing.
+-- The phase step from the fields of an f32's bits: the value that they stand for, how large the exponent's field is
+-- below 2^14, and that the code's quotient gives the step. Assumes nothing.
 use mathlib.Core.Path.{_≡_, refl, sym, ap, _∙_, subst}
 use mathlib.Core.Logic.{inl, inr}
 use Prim.Native.Nat.{ℕ, zero, suc, _+_, _-_, _*_, _/_, _%_, _^_, _≤_, _<_, min}

@@ -1,5 +1,5 @@
--- The step from the bits: for |v| < 2^51, v + 1.5 × 2^52 rounds to a whole number beside v, moved up, and its low 32 bits are that number modulo 2^32.
--- Assumes nothing.
+-- The step from the bits: for |v| < 2^51, v + 1.5 × 2^52 rounds to a whole number beside v, moved up, and its low 32
+-- bits are that number modulo 2^32. Assumes nothing.
 use mathlib.Core.Path.{_≡_, refl, sym, ap, _∙_, subst}
 use mathlib.Core.Logic.{inl, inr}
 use Prim.Native.Nat.{ℕ, suc, _+_, _-_, _*_, _%_, _^_, _≤_, _<_}

@@ -1,4 +1,5 @@
--- `rounded` is floor(±a / c + 1/2), and `phaseStep` of a value below 2^31 in size is that floor modulo 2^32, whichever fraction the value is written as. Assumes nothing.
+-- `rounded` is floor(±a / c + 1/2), and `phaseStep` of a value below 2^31 in size is that floor modulo 2^32,
+-- whichever fraction the value is written as. Assumes nothing.
 use mathlib.Core.Path.{_≡_, sym, ap}
 use mathlib.Core.Logic.{inl, inr}
 use Prim.Native.Nat.{ℕ, _+_, _-_, _*_, _^_, _<_}

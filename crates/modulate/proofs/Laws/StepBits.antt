@@ -1,4 +1,5 @@
--- The arithmetic of the shift: ±m moved up by 2^63 has no sign, and what its quotient by 2^k gives, moved back, is floor(±m / 2^(k + 1) + 1/2) modulo 2^32. Assumes nothing.
+-- The arithmetic of the shift: ±m moved up by 2^63 has no sign, and what its quotient by 2^k gives, moved back, is
+-- floor(±m / 2^(k + 1) + 1/2) modulo 2^32. Assumes nothing.
 use mathlib.Core.Path.{_≡_, sym, ap, _∙_}
 use Prim.Native.Nat.{ℕ, _+_, _-_, _*_, _/_, _%_, _^_, _≤_, _<_}
 use native.Mathlib.Nat.{mul-le-mul-right, le-of-mul-le-mul-right, mul-add-div-right, div-mul-le-self, lt-div-mul-add, div-lt-iff-lt-mul, div-eq-of-lt-le}

@@ -1,5 +1,5 @@
--- For every f32 the source's f64 form of the phase step is the exact one. v × 2^32 is exact; half more is exact too, or is taken back by a tie to even, or is far from a whole number.
--- Assumes nothing.
+-- For every f32 the original's f64 form of the phase step is the exact one (C18). v × 2^32 is exact; half more is
+-- exact too, or is taken back by a tie to even, or is far from a whole number. Assumes nothing.
 use mathlib.Core.Path.{_≡_, refl, sym, ap, _∙_, subst}
 use mathlib.Core.Logic.{_⊎_, inl, inr}
 use Prim.Native.Nat.{ℕ, suc, _+_, _-_, _*_, _^_, _≤_, _<_}

@@ -1,5 +1,5 @@
--- `stepped` and `phaseStep` by a floor: each is the floor of a fraction modulo 2^32, below 2^63 in size, and an end from there up.
--- Assumes nothing.
+-- `stepped` and `phaseStep` by a floor: each is the floor of a fraction modulo 2^32, below 2^63 in size, and an end
+-- from there up. Assumes nothing.
 use mathlib.Core.Path.{_≡_, refl, sym, ap, _∙_}
 use Prim.Native.Nat.{ℕ, _+_, _*_, _^_, _≤_, _<_}
 use native.Mathlib.Nat.{lt-irrefl, zero-lt-suc, lt-of-mul-lt-mul-right}
@@ -19,7 +19,7 @@ use Rattle.numbers.proofs.Laws.Whole.{floor-under, floor-next}
 use Rattle.modulate.specs.Step.{wrapped, rounded, castEnd, stepped, phaseStep, Wraps}
 use Rattle.modulate.proofs.Laws.Rounded.{rounded-floor, wrapped-is, wrapped-unique}
 
--- a - b is the greatest whole number not above (p - n) / c
+-- a - b is the floor of (p - n) / c
 pub record Floor (p n c a b : ℕ) : Type 0 where
   pub under : a * c + n ≤ p + b * c
   pub next : p + b * c < a * c + c + n

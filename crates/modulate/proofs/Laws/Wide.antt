@@ -1,5 +1,5 @@
--- The step of any v: between -2^63 and 2^63 its floor is a whole number that a cast to a u64 keeps, negated if it is below zero.
--- Assumes nothing.
+-- The step of any v: between -2^63 and 2^63 its floor is a whole number that a cast to a u64 keeps, negated if it is
+-- below zero. Assumes nothing.
 use mathlib.Core.Path.{_≡_, refl, ap, _∙_}
 use Prim.Native.Nat.{ℕ, suc, _+_, _-_, _*_, _/_, _%_, _^_, _≤_, _<_}
 use native.Mathlib.Nat.{zero-lt-suc, lt-of-mul-lt-mul-right, mul-div-cancel}

@@ -1,4 +1,5 @@
--- `operations_replay::play_lines` counts each line that it plays. The loop's invariant: so many are counted. The measure is how many may still come. Assumes nothing.
+-- `operations_replay::play_lines` counts each line that it plays. The loop's invariant: so many are counted. The
+-- measure is how many may still come. Assumes nothing.
 use Prim.Native.Nat.{_-_, _^_}
 use borrow.Author.Needs.{needs}
 use Rattle.replay.specs.Tally.{Tallied, none}

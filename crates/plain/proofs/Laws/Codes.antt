@@ -1,4 +1,5 @@
--- The numbers that stand for the enums: each enum's value has its own, and a number that is one of them stands for that value. Assumes nothing.
+-- The numbers that stand for the enums: each enum's value has its own, and a number that is one of them stands for
+-- that value. Assumes nothing.
 use mathlib.Core.Path.{_≡_, refl}
 use Prim.Native.Nat.{ℕ, zero, suc, _<_}
 use native.Mathlib.Omega.{arith}

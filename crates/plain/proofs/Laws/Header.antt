@@ -1,4 +1,4 @@
--- The codes and numbers are those of the header. Assumes nothing.
+-- L4 and E1 to E8: the codes and numbers are those of the header. Assumes nothing.
 use mathlib.Core.Path.{refl}
 use Rattle.plain.specs.Header.{Header}
 

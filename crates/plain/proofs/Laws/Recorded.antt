@@ -1,4 +1,5 @@
--- Records that stand for states faithfully, of any kind: what a function gives that hands out a state's record, and that two given records of one state are one. Assumes nothing.
+-- L1: records that stand for states faithfully, of any kind: what holds of the record that a function gives for a
+-- state, and that two given records of one state are one. Assumes nothing.
 use mathlib.Core.Path.{_≡_, sym, ap, _∙_, subst}
 use Rattle.plain.specs.Faithful.{Faithful}
 
@@ -14,6 +15,6 @@ module _ {R S : Type 0} {stateOf : R → S} {recordOf : S → R} {GivenState : S
   pub came-given : {x : R} {s : S} → s ≡ stateOf x → GivenRecord x → GivenState s
   came-given {x} e g = subst GivenState (sym e) (F .given-in x g)
 
-  -- "A refused run yields … the same state": the same record, then
+  -- L2: a call that leaves the state leaves the record
   pub same-record : {x y : R} → GivenRecord x → GivenRecord y → stateOf x ≡ stateOf y → x ≡ y
   same-record {x} {y} g h e = sym (F .record-back x g) ∙ ap recordOf e ∙ F .record-back y h

@@ -1,4 +1,4 @@
--- The carrier loop's record stands for its state faithfully. Assumes nothing.
+-- L1: the carrier loop's record stands for its state faithfully. Assumes nothing.
 use mathlib.Core.Path.{_≡_, ap, sym, subst}
 use Prim.Native.Nat.{ℕ}
 use Rattle.constellations.specs.declared.kinds.CostasConstellation.{CostasConstellation}

@@ -1,4 +1,5 @@
--- `plain_carrier::record_of` meets its contract: the code is the one that stands for the constellation, and the rest is as it is. Assumes nothing.
+-- `plain_carrier::record_of` meets its contract: the code is the one that stands for the constellation, and the rest
+-- is as it is. Assumes nothing.
 use mathlib.Core.Path.{ap}
 use Rattle.plain_carrier.specs.Carrier.{recordOf}
 use Rattle.plain_carrier.proofs.Laws.Faithful.{withCode}

@@ -1,4 +1,5 @@
--- `plain_carrier::state_of` meets its contract: the constellation is the one that the code stands for, and the rest is as it is. Assumes nothing.
+-- `plain_carrier::state_of` meets its contract: the constellation is the one that the code stands for, and the rest
+-- is as it is. Assumes nothing.
 use mathlib.Core.Path.{ap}
 use Rattle.plain_carrier.specs.Carrier.{stateOf}
 use Rattle.plain_carrier.proofs.Laws.Faithful.{withConstellation}

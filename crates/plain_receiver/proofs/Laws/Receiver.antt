@@ -1,4 +1,5 @@
--- The receiver's record stands for the receiver faithfully, and a refused call leaves the very same record. Assumes nothing.
+-- L1 and L2: the receiver's record stands for the receiver faithfully, and a refused call leaves the very same
+-- record. Assumes nothing.
 use mathlib.Core.Path.{_≡_, ap, sym, subst}
 use Prim.Native.Nat.{_<_}
 use native.Mathlib.Omega.{arith}
@@ -48,7 +49,7 @@ record AsFound (r : declaredReceiver.Receiver) (zs ys : List Float) (o : Outcome
   strobes : o .strobes ≡ zs
   output : o .output ≡ ys
 
--- "A refused run yields … the same state, and every buffer unchanged."
+-- A7: a call with another number than 0
 called-as-found : (r : declaredReceiver.Receiver) (xs zs ys : List Float) (o : Outcome) → o ≡ called r xs zs ys → 0 < o .number → AsFound r zs ys o
 unfolding called done
 called-as-found r xs zs ys o = by (oddAny xs zs ys) (eqb (length zs) (length ys))
@@ -58,7 +59,8 @@ called-as-found r xs zs ys o = by (oddAny xs zs ys) (eqb (length zs) (length ys)
     by false true e h = absurd (omega (arith, ap (λ (q : Outcome). q .number) e))
     by false false e h = record { receiver = ap (λ (q : Outcome). q .receiver) e; strobes = ap (λ (q : Outcome). q .strobes) e; output = ap (λ (q : Outcome). q .output) e }
 
--- what `trr_receiver_receive` ensures says so of the record itself: a call that answers another number than 0 leaves the record x and both buffers as it found them
+-- L2: the contract of `trr_receiver_receive` says so of the record itself: a call that answers another number than 0
+-- leaves the record x and both buffers as it found them
 pub refused-as-found : (x y : Receiver) (a : Counts) (xs zs ys zs₁ ys₁ : List Float) → Given x → Given y → outcomeOf a y zs₁ ys₁ ≡ called (receiverOf x) xs zs ys → 0 < a .number → (y ≡ x) × ((zs₁ ≡ zs) × (ys₁ ≡ ys))
 refused-as-found x y a xs zs ys zs₁ ys₁ g h e n =
     let f = called-as-found (receiverOf x) xs zs ys (outcomeOf a y zs₁ ys₁) e n in

@@ -1,4 +1,5 @@
--- `plain_receiver::receiver_of` meets its contract: each loop's state is the one that its record stands for. Assumes nothing.
+-- `plain_receiver::receiver_of` meets its contract: each loop's state is the one that its record stands for.
+-- Assumes nothing.
 use Rattle.complex_sync.specs.Views.{stateOf}
 use borrow.Author.Needs.{needs}
 use Rattle.plain_receiver.proofs.receiver_of.Statement.{statement}

@@ -1,4 +1,4 @@
--- The records of both timing loops stand for their states faithfully. Assumes nothing.
+-- L1: the records of both timing loops stand for their states faithfully. Assumes nothing.
 use mathlib.Core.Path.{_≡_, refl, ap, sym, _∙_, subst}
 use Rattle.timing.specs.declared.params.Ted.{Ted}
 use Rattle.timing.specs.declared.params.Params.{Params}
@@ -32,7 +32,8 @@ abbrev pub withParams : {A : Type 0} → Sync A → Params → Sync A
 withParams s p = record { params = p; hist = s .hist; track = s .track }
 
 -- ---- the states
--- over the sample type and its record: what `build` makes of parameters and a state has those parameters and stands for that state
+-- over the sample type and its record: what `build` makes of parameters and a state has those parameters
+-- and stands for that state
 module _ {A R : Type 0} (params : R → TimingParams) (syncOf : R → Sync A) (build : TimingParams → Sync A → R) where
   abbrev recordOf : Sync A → R
   recordOf s = build (paramsRecord (s .params)) s

@@ -1,4 +1,5 @@
--- The loop over a block: what the definition makes of the rest of the block, from here, is what it makes of the whole. Assumes nothing.
+-- The loop over a block: what the definition makes of the rest of the block, from here, is what it makes of
+-- the whole. Assumes nothing.
 use mathlib.Core.Path.{_≡_, refl, sym, ap, _∙_, subst}
 use mathlib.Core.Bool.{Bool, true, false, not, _||_, cond}
 use mathlib.Core.List.{List}

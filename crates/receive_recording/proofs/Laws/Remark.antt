@@ -1,4 +1,5 @@
--- The remark goes by the whole recording: what its samples are, seen block by block, is what they are as a whole. Assumes nothing.
+-- P3: the remark is about the whole recording: what its samples are, seen block by block, is what they are as
+-- a whole. Assumes nothing.
 use mathlib.Core.Path.{_≡_, refl, sym, ap, _∙_}
 use mathlib.Core.List.{List, [], _∷_}
 use lib.Ieee.{Float}

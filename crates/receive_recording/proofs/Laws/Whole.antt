@@ -1,4 +1,5 @@
--- No sample of a block is left behind, and the blocks that a recording is read in do not show: the receiver after it is the same. Assumes nothing.
+-- P2: no sample of a block is left over, and the receiver after a recording does not depend on the blocks in which it
+-- is read. Assumes nothing.
 use mathlib.Core.Path.{_≡_, refl, sym, ap, _∙_, subst}
 use mathlib.Core.Logic.{_⊎_, inl, inr}
 use mathlib.Core.Bool.{Bool, true, false, _||_, cond}

@@ -1,4 +1,5 @@
--- `receive_recording::advance` is safe and ends, and a set-up or a run has given the receiver that it answers. Assumes nothing.
+-- `receive_recording::advance` is safe and ends, and a set-up or a run has given the receiver that it answers.
+-- Assumes nothing.
 use mathlib.Core.Path.{sym, ap, subst}
 use native.Mathlib.Omega.{arith}
 use lib.Seq.{length-take-le}

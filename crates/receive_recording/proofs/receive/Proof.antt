@@ -1,4 +1,5 @@
--- `receive_recording::receive` is safe and ends. The loop's invariant: a set-up or a run has given the receiver. The measure is how many blocks may follow. Assumes nothing.
+-- `receive_recording::receive` is safe and ends. The loop's invariant: a set-up or a run has given the receiver. The
+-- measure is how many blocks may follow. Assumes nothing.
 use native.Mathlib.Omega.{arith}
 use Rattle.receiver.specs.Record.{Given}
 use Rattle.receive_recording.proofs.receive.Statement.{statement}

@@ -1,4 +1,6 @@
--- A set-up of the receiver: it is refused exactly if a row is not passed, with the first such row's reason; an accepted one gives the fresh receiver of its values; and it answers what the two loops' set-ups answer, timing's first. Assumes nothing.
+-- R4: a set-up of the receiver is refused exactly if a row is not passed, with the first such row's reason; an
+-- accepted one gives the fresh receiver of its values; and it answers what the two loops' set-ups answer,
+-- timing's first. Assumes nothing.
 use mathlib.Core.Path.{_≡_, refl, sym, ap, _∙_}
 use Prim.Native.Nat.{ℕ}
 use native.Mathlib.Omega.{arith}

@@ -1,4 +1,5 @@
--- The values that a receiver was set up with stay: a set-up gives them, and a reset and the phase setting keep them. Assumes nothing.
+-- The values that a receiver was set up with stay: a set-up gives them, and a reset and the phase setting keep them.
+-- Assumes nothing.
 use mathlib.Core.Path.{_≡_, ap}
 use Prim.Native.Nat.{ℕ}
 use Rattle.constellations.specs.declared.kinds.CostasConstellation.{CostasConstellation}

@@ -1,4 +1,5 @@
--- `receiver_replay::play_lines` counts each line that it plays. The loop's invariant: both receivers are given, and so many lines are counted. The measure is how many may still come. Assumes nothing.
+-- `receiver_replay::play_lines` counts each line that it plays. The loop's invariant: both receivers are given, and
+-- so many lines are counted. The measure is how many may still come. Assumes nothing.
 use Prim.Native.Nat.{_-_, _^_}
 use native.Mathlib.Omega.{arith}
 use borrow.Author.Needs.{needs}

@@ -1,4 +1,5 @@
--- What a recording's samples are: one more of them, and all of them; that the blocks do not show in which they are seen; and that seen one by one they are what they are as a whole. Assumes nothing.
+-- What a recording's samples are: one more of them, and all of them; that the blocks do not show in which they are
+-- seen; and that seen one by one they are what they are as a whole. Assumes nothing.
 use mathlib.Core.Path.{_≡_, refl, sym, ap, _∙_}
 use mathlib.Core.Bool.{Bool, true, false, _||_, cond}
 use mathlib.Core.List.{List, [], _∷_, _++_}

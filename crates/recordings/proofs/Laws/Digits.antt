@@ -1,4 +1,5 @@
--- Symbols as digits: a symbol's number has one digit; how many digits an output has, and the one at an index. Assumes nothing.
+-- Symbols as digits: a symbol's number has one digit; how many digits an output has, and the one at an index.
+-- Assumes nothing.
 use mathlib.Core.Path.{_≡_, sym, ap, _∙_}
 use mathlib.Core.List.{List}
 use Prim.Native.Nat.{ℕ, _/_, _<_, min}

@@ -1,4 +1,5 @@
--- The f32 that bytes hold: how many there are and the one at an index; the bytes that hold f32, stored four by four; and that what is written is read back. Assumes nothing.
+-- The f32 that bytes hold: how many there are and the one at an index; the bytes that hold f32, stored four by four;
+-- and that what is written is read back. Assumes nothing.
 use mathlib.Core.Path.{_≡_, refl, sym, ap, _∙_}
 use mathlib.Core.List.{List, [], _∷_, _++_, append-assoc, append-nil}
 use Prim.Native.Nat.{ℕ, zero, suc, _+_, _-_, _*_, _/_, _%_, _^_, _<_}

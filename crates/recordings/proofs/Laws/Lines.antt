@@ -1,4 +1,5 @@
--- Digits in lines: the text of two parts, one after the other, is the text of the whole; and the loop that lays digits out. Assumes nothing.
+-- Digits in lines: the text of two parts, one after the other, is the text of the whole; and the loop that lays
+-- digits out. Assumes nothing.
 use mathlib.Core.Path.{_≡_, refl, ap, _∙_}
 use mathlib.Core.Bool.{Bool, true, false, cond}
 use mathlib.Core.List.{List, [], _∷_, _++_}

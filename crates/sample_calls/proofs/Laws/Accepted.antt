@@ -1,4 +1,5 @@
--- An accepted sample call as the code makes it: what timing's run and then the carrier's over its strobes come to is what the definition says. Assumes nothing.
+-- An accepted sample call as the code makes it: timing's run, and then the carrier's over its strobes, give what the
+-- definition says (R1). Assumes nothing.
 use mathlib.Core.Path.{_≡_, ap, _∙_}
 use mathlib.Core.List.{List}
 use Prim.Native.Nat.{ℕ, _*_, _≤_}

@@ -1,4 +1,5 @@
--- The symbol count: each call adds what it produced, a refused one nothing; after a list of calls it has grown by the sum produced, and it stops at the top. Assumes nothing.
+-- R6: each call adds to the symbol count what it produced, a refused one nothing; after a list of calls the count has
+-- grown by the sum produced, and it is never above 4,294,967,295. Assumes nothing.
 use mathlib.Core.Path.{_≡_, refl, sym, ap, _∙_}
 use mathlib.Core.Bool.{Bool, true, false, cond}
 use mathlib.Core.List.{List, [], _∷_}

@@ -1,4 +1,4 @@
--- A given receiver stays given in a sample call, refused or not. Assumes nothing.
+-- A9: a given receiver stays given in a sample call, refused or not. Assumes nothing.
 use mathlib.Core.Path.{_≡_, refl}
 use Prim.Native.Nat.{ℕ, _+_, _*_, _/_, _<_, _^_}
 use native.Mathlib.Omega.{arith}

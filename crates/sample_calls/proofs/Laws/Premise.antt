@@ -1,4 +1,5 @@
--- The premise on BPSK bites: without it the claim on turned recordings is false. Input turned once and a phase not set, in one call, give opposite frequencies. Assumes nothing.
+-- Q11: a counterexample to the statement on turned recordings without its condition on BPSK. Input turned once and a
+-- phase not set, in one call, give opposite frequencies. Assumes nothing.
 use mathlib.Core.Path.{refl}
 use Prim.Native.Nat.{ℕ, _*_, _^_, _≤_}
 use native.Mathlib.Omega.{arith}
@@ -83,6 +84,6 @@ not-alike x y p n a = not-both y (rw (← zero-lt false (pos 0) y, like-lt (like
 pub counterexample : TurnedList 1 0 start (phaseSet start 0) calls turnedCalls → ⊥
 counterexample q = not-alike _ _ (opposed .0) (opposed .1) (q .afterwards .carrier .frequency)
 
--- so `turned-recordings` for BPSK is false without "k - m even", also where k and m are 0 to 3
+-- Q11: so `turned-recordings` for BPSK is false where k + m may be odd, also where k and m are 0 to 3
 pub premise-bites : ((t : TimingValues) (v : CarrierValues) (r s : Receiver) → Fresh Bpsk t v r → Fresh Bpsk t v s → (k m : ℕ) → k ≤ 3 → m ≤ 3 → (cs ds : List Call) → Each (TurnedCall k) cs ds → TurnedList k m r (phaseSet s (m * 2 ^ 30)) cs ds) → ⊥
 premise-bites claim = counterexample (claim timing carrier start start start-fresh start-fresh 1 0 (omega arith) (omega arith) calls turnedCalls (turned-list 1 calls))

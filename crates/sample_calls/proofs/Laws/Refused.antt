@@ -1,4 +1,5 @@
--- Which sample calls are refused, and with what: an odd count of f32 in any buffer first, then a strobe buffer that is not as long as the output; in both the receiver and the buffers stay. Assumes nothing.
+-- R10 and A7: which sample calls are refused, and with what: an odd count of f32 in any buffer first, then a strobe
+-- buffer that is not as long as the output; in both the receiver and the buffers stay. Assumes nothing.
 use mathlib.Core.Path.{_≡_, refl, ap, _∙_, subst}
 use mathlib.Core.Bool.{Bool, true, false, not, _&&_, _||_, cond, or-true}
 use mathlib.Core.List.{List, []}
@@ -63,7 +64,7 @@ module _ (r : Receiver) (xs zs ys : List Float) where
       go false true h k f = absurd (subst T f tt)
       go false false h k f = (Uneven, called-uneven h (eqb-false (length zs) (length ys) k))
 
-  -- a call's number, exactly: 8 if a count is odd, else 7 if the lengths differ, else none
+  -- R10: the number of a call: 8 if a count is odd, else 7 if the lengths differ, else 0
   pub called-number : called r xs zs ys .number ≡ cond (oddAny xs zs ys) 8 (cond (eqb (length zs) (length ys)) 0 7)
   unfolding called done
   called-number = go (oddAny xs zs ys) (eqb (length zs) (length ys))
@@ -73,6 +74,6 @@ module _ (r : Receiver) (xs zs ys : List Float) where
       go false true = refl
       go false false = refl
 
--- "Empty buffers are accepted."
+-- A8: a call with empty buffers is accepted
 pub empty-accepted : (r : Receiver) → called r [] [] [] .number ≡ 0
 empty-accepted r = called-number r [] [] []

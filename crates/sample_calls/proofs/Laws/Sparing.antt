@@ -1,4 +1,5 @@
--- What a sample call leaves: it counts no more than was lent, takes all input if an output place is left, and leaves every place past those produced as found, in both buffers. Assumes nothing.
+-- A10: no count of a sample call is above what its buffers have, a place is left over only where all input is
+-- consumed, and every place past those produced is as found, in both buffers. Assumes nothing.
 use mathlib.Core.Path.{_≡_, refl, _∙_, subst}
 use mathlib.Core.Bool.{Bool, true, false}
 use mathlib.Core.List.{List}

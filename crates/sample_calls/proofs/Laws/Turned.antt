@@ -1,4 +1,5 @@
--- Document 01's claim on turned recordings, for the whole receiver: turned inputs and a phase set by quarters give the same numbers, counts and readings, turned strobes and turned outputs, over a list of calls of any length. Assumes nothing.
+-- Q9, for the whole receiver: turned inputs and a phase set by quarters give the same numbers, counts and readings,
+-- turned strobes and turned outputs, over a list of calls of any length. Assumes nothing.
 use mathlib.Core.Path.{_≡_, refl, sym, ap, ap₂, _∙_, subst₂}
 use Prim.Native.Nat.{ℕ, _*_, _/_, _%_, _^_, _≤_}
 use native.Mathlib.Omega.{arith}
@@ -44,12 +45,13 @@ use Rattle.sample_calls.specs.Call.{Outcome, refusedCall, done, oddAny, 
 use Rattle.sample_calls.specs.Calls.{Fresh, just-set-up, just-reset, Call, callOf, leftBy, TurnedCall, turnedCall, outputsOf, TurnedOutcome, SameReceiver, TurnedList}
 use Rattle.receiver.proofs.Laws.Setup.{opened-is}
 
--- ---- a receiver just set up or just reset, as data
+-- ---- a fresh receiver (Q4), as data
 pub fresh-is : {c : CostasConstellation} {t : TimingValues} {v : CarrierValues} {r : Receiver} → Fresh c t v r → r ≡ fresh c (timingParams t) (carrierParamsOf v)
 fresh-is {c} {t} {v} (just-set-up {r = r} e) = opened-is c t v r e
 fresh-is (just-reset r g w) = λ i. fresh (w .constellation i) (w .timing i) (w .carrier i)
 
--- ---- two receivers: s is r on the recording turned k times, its carrier m quarters on; the constellation is one that the turns are allowed for
+-- ---- two receivers: s is r on the recording turned k times, its carrier m quarters on; the constellation is
+-- one that allows these turns
 record Tied (k m : ℕ) (r s : Receiver) : Type 0 where
   allowed : Allowed (r .carrier .constellation) k m
   timing : TiedSync k (sync (r .timing)) (sync (s .timing))
@@ -63,7 +65,7 @@ same-receiver : {k m : ℕ} {r s : Receiver} → Tied k m r s → SameReceiver m
 same-receiver h = record { count = h .count; clock = same-clock (h .timing); carrier = same-carrier (h .carrier) }
 
 -- ---- a call that is not refused
--- what timing makes of it, and the strobes that it hands on to the carrier
+-- what timing makes of it, and the strobes that it gives to the carrier
 abbrev timed : Receiver → Call → run.Outcome C32
 timed r c = doneComplex (sync (r .timing)) (c .input) (c .strobes)
 
@@ -134,7 +136,7 @@ module _ (k m : ℕ) (small : m ≤ 3) where
       let q = lists-keep callOf leftBy (λ (r s : Receiver) (c d : Call) (h : Tied k m r s) (t : TurnedCall k c d). let o = tied-call h t in (o .answer, o .receiver)) h l in
       record { answers = q .0; afterwards = same-receiver (q .1) }
 
--- "Both receivers are set up with the same accepted values, either detector and any of the three constellations, and are fresh, …; the second's phase is set to m × 2^30." k may be any number of turns.
+-- Q9: two fresh receivers of the same values, the second with its phase set to m × 2^30; k may be any number of turns
 pub turned-recordings : (c : CostasConstellation) (t : TimingValues) (v : CarrierValues) {r s : Receiver} → Fresh c t v r → Fresh c t v s → (k m : ℕ) → m ≤ 3 → Allowed c k m → (cs ds : List Call) → Each (TurnedCall k) cs ds → TurnedList k m r (phaseSet s (m * 2 ^ 30)) cs ds
 turned-recordings c t v f g k m h a cs ds l =
     rw (fresh-is f, fresh-is g) (tied-list k m h (tied-fresh c (timingParams t) (carrierParamsOf v) k m h a) l)

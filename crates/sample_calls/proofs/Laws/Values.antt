@@ -1,4 +1,5 @@
--- The values that a receiver was set up with stay: every call keeps them, and so does a list of calls. Assumes nothing.
+-- The values that a receiver was set up with stay: every call keeps them, and so does a list of calls.
+-- Assumes nothing.
 use mathlib.Core.Bool.{Bool, true, false, cond}
 use mathlib.Core.List.{List, [], _∷_}
 use lib.Dec.{eqb}

@@ -1,4 +1,5 @@
--- The symbol numbers: how many there are under each constellation, that samples alike have the same, and that silence reads as 0. Assumes nothing.
+-- The symbol numbers: how many there are under each constellation, that samples alike have the same, and that silence
+-- has 0 (R14). Assumes nothing.
 use mathlib.Core.Path.{_≡_, refl, ap, _∙_}
 use mathlib.Core.Bool.{Bool, true, false, _&&_, _||_, cond}
 use Prim.Native.Nat.{ℕ, _/_, _<_}
@@ -34,7 +35,7 @@ symbol-alike Bpsk p = rw (like-lt (p .real) (like-refl zero₀), like-eq (p .rea
 symbol-alike Qpsk p = ap (λ (k : ℕ). k / 2) (octant-alike p)
 symbol-alike Psk8 p = octant-alike p
 
--- "Silence reads as 0.", whatever the signs of its zeros
+-- R14: silence has 0, whatever the signs of its zeros
 pub symbol-silence : (c : CostasConstellation) {y : C32} → AlikeSample y silence → symbolOf c y ≡ 0
 symbol-silence c p = symbol-alike c p ∙ of-silence c
   where

@@ -1,4 +1,5 @@
--- `timing_replay::play_lines` counts each line that it plays. The loop's invariant: the state is given, and so many lines are counted. The measure is how many may still come. Assumes nothing.
+-- `timing_replay::play_lines` counts each line that it plays. The loop's invariant: the state is given, and so many
+-- lines are counted. The measure is how many may still come. Assumes nothing.
 use Prim.Native.Nat.{_-_, _^_}
 use borrow.Author.Needs.{needs}
 use Rattle.timing_replay.specs.Slot.{SlotGiven}

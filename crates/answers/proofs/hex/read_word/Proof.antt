@@ -1,5 +1,5 @@
--- `answers::read_word` meets its contract. The loop's invariant: the digits that are left, after those read, spell what all of them do.
--- Assumes nothing.
+-- `answers::read_word` meets its contract. The loop's invariant: the digits that are left, after those read, spell
+-- what all of them do. Assumes nothing.
 use mathlib.Core.Path.{_≡_, refl, sym, ap, _∙_}
 use Prim.Native.Nat.{ℕ, _≤_, _<_, _^_, _-_}
 use native.Mathlib.Omega.{arith}

@@ -1,4 +1,5 @@
--- `answers::read_line` meets its contract: by the length, the four bytes between the words, and the words. Assumes nothing.
+-- `answers::read_line` meets its contract: by the length, the four bytes between the words, and the words.
+-- Assumes nothing.
 use mathlib.Core.Path.{_≡_, sym, _∙_}
 use Prim.Native.Nat.{ℕ}
 use mathlib.Core.Bool.{Bool, _&&_, cond}

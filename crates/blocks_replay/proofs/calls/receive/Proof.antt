@@ -1,4 +1,5 @@
--- `blocks_replay::calls::receive` is safe and ends. The loop's invariant: the receiver is given, and the buffers keep their lengths. The measure is the count of calls that may still come. Assumes nothing.
+-- `blocks_replay::calls::receive` is safe and ends. The loop's invariant: the receiver is given, and the buffers keep
+-- their lengths. The measure is the count of calls that may still come. Assumes nothing.
 use mathlib.Core.Path.{_≡_}
 use lib.ListN.{length}
 use Rattle.receiver.specs.Record.{Given}

@@ -1,4 +1,5 @@
--- `blocks_replay::compare::compare_received` is safe and ends. The measure is the count of cuts that are left. Assumes nothing.
+-- `blocks_replay::compare::compare_received` is safe and ends. The measure is the count of cuts that are left.
+-- Assumes nothing.
 use Prim.Native.Nat.{_-_}
 use borrow.Author.Needs.{needs}
 use Rattle.blocks_replay.proofs.compare.compare_received.Statement.{statement}

@@ -1,4 +1,5 @@
--- `blocks_replay::compare::same_received` meets its contract: the words compared are those of the definition. Assumes nothing.
+-- `blocks_replay::compare::same_received` meets its contract: the words compared are those of the definition.
+-- Assumes nothing.
 use mathlib.Core.Path.{_∙_}
 use mathlib.Core.Bool.{_&&_}
 use Rattle.answers.specs.Slices.{sameWords}

@@ -1,4 +1,5 @@
--- `blocks_replay::damage::damage` is safe and ends. The loop's invariant: the recording keeps its length. The measure is what is left. Assumes nothing.
+-- `blocks_replay::damage::damage` is safe and ends. The loop's invariant: the recording keeps its length. The measure
+-- is what is left. Assumes nothing.
 use mathlib.Core.Path.{_≡_}
 use Prim.Native.Nat.{_-_}
 use lib.ListN.{length}

@@ -1,4 +1,5 @@
--- `carrier::filter::coast` meets its contract, by what its callees ensure; the phase step of an f32 in f64 is the same. Assumes nothing.
+-- `carrier::filter::coast` meets its contract, by what its callees ensure; the phase step of an f32 in f64 is
+-- the same. Assumes nothing.
 use mathlib.Core.Path.{ap, _∙_}
 use Prim.Native.Nat.{ℕ, _+_, _%_, _^_}
 use lib.Ieee.{Float, binary32, ofBits}

@@ -1,4 +1,5 @@
--- `carrier::integrate` meets its contract: inside the limit and above the threshold nothing changes, and else the code is the definition. Assumes nothing.
+-- `carrier::integrate` meets its contract: inside the limit and above the threshold nothing changes, and else the
+-- code is the definition. Assumes nothing.
 use mathlib.Core.Path.{ap, _∙_}
 use lib.Ieee.{Float, ofBits, round}
 use Rattle.numbers.specs.Range.{limited}

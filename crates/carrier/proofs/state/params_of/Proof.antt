@@ -1,4 +1,5 @@
--- `carrier::state::params_of` meets its contract: by the gains, and by the offset narrowed and flushed. Assumes nothing.
+-- `carrier::state::params_of` meets its contract: by the gains, and by the offset narrowed and flushed.
+-- Assumes nothing.
 use mathlib.Core.Path.{ap, _∙_}
 use lib.Ieee.{binary32}
 use Rattle.numbers.specs.Denormal.{flushed}

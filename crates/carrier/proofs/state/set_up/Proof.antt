@@ -1,4 +1,5 @@
--- `carrier::set_up` meets its contract: the tests that led to an answer are the rows that the definition goes by. Assumes nothing.
+-- `carrier::set_up` meets its contract: the tests that led to an answer are the rows that the definition goes by.
+-- Assumes nothing.
 use mathlib.Core.Path.{_≡_, sym, ap, _∙_, subst}
 use mathlib.Core.Bool.{true}
 use lib.Ieee.{ofBits, round, binary64}

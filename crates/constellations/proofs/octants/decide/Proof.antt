@@ -1,4 +1,5 @@
--- `constellations::octants::decide` meets its contract: each arm is what the definition picks for that constellation. Assumes nothing.
+-- `constellations::octants::decide` meets its contract: each arm is what the definition picks for that constellation.
+-- Assumes nothing.
 use mathlib.Core.Path.{sym, _∙_}
 use lib.Ieee.{ofBits}
 use borrow.Author.Needs.{needs}

@@ -1,4 +1,5 @@
--- `constellations::octants::octant` meets its contract: the sum of its four terms is the octant, and so no part of it overflows. Assumes nothing.
+-- `constellations::octants::octant` meets its contract: the sum of its four terms is the octant, and so no part of it
+-- overflows. Assumes nothing.
 use mathlib.Core.Path.{_∙_}
 use Prim.Native.Nat.{_+_}
 use native.Mathlib.Omega.{arith}

@@ -1,4 +1,5 @@
--- `constellations::octants::point8` meets its contract: the octant is below 8, so that the table is read inside. Assumes nothing.
+-- `constellations::octants::point8` meets its contract: the octant is below 8, so that the table is read inside.
+-- Assumes nothing.
 use mathlib.Core.Path.{ap, _∙_}
 use native.Mathlib.Omega.{arith}
 use lib.Ieee.{ofBits, neg}

@@ -1,4 +1,5 @@
--- `costas::carry` meets its contract: the state is the one before with the track after the last symbol. Assumes nothing.
+-- `costas::carry` meets its contract: the state is the one before with the track after the last symbol.
+-- Assumes nothing.
 use mathlib.Core.Path.{_≡_, sym, subst}
 use mathlib.Core.List.{List}
 use borrow.Author.Needs.{needs}

@@ -1,4 +1,5 @@
--- `costas::run` meets its contract: an odd buffer is refused, then lengths that differ, and else the call is what `carry` ensures. Assumes nothing.
+-- `costas::run` meets its contract: an odd buffer is refused, then lengths that differ, and else the call is what
+-- `carry` ensures. Assumes nothing.
 use mathlib.Core.Path.{_≡_, sym, ap, _∙_, subst}
 use mathlib.Core.Logic.{inl, inr}
 use mathlib.Core.Bool.{true}

@@ -1,4 +1,5 @@
--- `costas::symbols::symbols` meets its contract. The invariant: what the definition shows from here is what it shows from the start. Assumes nothing.
+-- `costas::symbols::symbols` meets its contract. The invariant: what the definition shows from here is what it shows
+-- from the start. Assumes nothing.
 use mathlib.Core.Path.{ap, _∙_}
 use Prim.Native.Nat.{_-_}
 use native.Mathlib.Omega.{arith}

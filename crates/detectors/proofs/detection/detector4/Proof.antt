@@ -1,4 +1,5 @@
--- `detectors::detector4` meets its contract: on either path both products are those of the definition. Assumes nothing.
+-- `detectors::detector4` meets its contract: on either path both products are those of the definition.
+-- Assumes nothing.
 use mathlib.Core.Path.{sym, ap, _∙_}
 use lib.Ieee.{binary32, ofBits, sub, lt}
 use Rattle.ieee.specs.Notation.{zero₀}

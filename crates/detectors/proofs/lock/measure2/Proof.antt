@@ -1,4 +1,5 @@
--- `detectors::lock::measure2` meets its contract: the code is the definition, operation by operation. Assumes nothing.
+-- `detectors::lock::measure2` meets its contract: the code is the definition, operation by operation.
+-- Assumes nothing.
 use mathlib.Core.Path.{refl}
 use Rattle.detectors.specs.Lock.{bpskMeasure}
 use Rattle.detectors.proofs.lock.measure2.Statement.{statement}

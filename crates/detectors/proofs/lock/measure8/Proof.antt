@@ -1,4 +1,5 @@
--- `detectors::lock::measure8` meets its contract: the code is the definition, operation by operation. Assumes nothing.
+-- `detectors::lock::measure8` meets its contract: the code is the definition, operation by operation.
+-- Assumes nothing.
 use mathlib.Core.Path.{refl}
 use lib.Ieee.{ofBits}
 use Rattle.detectors.specs.Lock.{psk8Measure, fourfold, along}

@@ -1,4 +1,5 @@
--- `library_replay::call::call` meets its contract: it is a caller of the crate `lent`, with two outputs, of the receiver's entry. Assumes nothing.
+-- `library_replay::call::call` meets its contract: it is a caller of the crate `lent`, with two outputs, of the
+-- receiver's entry. Assumes nothing.
 use mathlib.Core.Path.{_≡_, refl}
 use mathlib.Core.Bool.{true}
 use Rattle.sample_calls.specs.Call.{called}

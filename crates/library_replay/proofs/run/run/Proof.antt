@@ -1,4 +1,5 @@
--- `library_replay::run::run` meets its contract: the part of a buffer that is lent is no longer than the buffer. Assumes nothing.
+-- `library_replay::run::run` meets its contract: the part of a buffer that is lent is no longer than the buffer.
+-- Assumes nothing.
 use mathlib.Core.Path.{sym}
 use native.Mathlib.Omega.{arith}
 use lib.Seq.{length-take-le}

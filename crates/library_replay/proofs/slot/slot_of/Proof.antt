@@ -1,4 +1,5 @@
--- `library_replay::slot::slot_of` meets its contract: a set-up that answers 0 has given its receiver. Assumes nothing.
+-- `library_replay::slot::slot_of` meets its contract: a set-up that answers 0 has given its receiver.
+-- Assumes nothing.
 use borrow.Author.Needs.{needs}
 use Rattle.library_replay.proofs.slot.slot_of.Statement.{statement}
 use Rattle.library_replay.proofs.slot.slot_of.Tie as tie

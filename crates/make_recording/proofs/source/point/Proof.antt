@@ -1,4 +1,5 @@
--- `make_recording::source::point` meets its contract: the four points are the quarter turns of the first. Assumes nothing.
+-- `make_recording::source::point` meets its contract: the four points are the quarter turns of the first.
+-- Assumes nothing.
 use mathlib.Core.Path.{_≡_, sym, ap}
 use Prim.Native.Nat.{ℕ, _/_, _^_}
 use native.Mathlib.Omega.{arith}

@@ -1,4 +1,5 @@
--- `mix::oscillator::interp_f32_pair` meets its contract: the indices lie inside the table, and the fraction is the definition's. Assumes nothing.
+-- `mix::oscillator::interp_f32_pair` meets its contract: the indices lie inside the table, and the fraction is the
+-- definition's. Assumes nothing.
 use mathlib.Core.Path.{_≡_, ap, _∙_}
 use mathlib.Core.List.{List}
 use Prim.Native.Nat.{ℕ, _+_, _*_, _/_, _%_, _^_}

@@ -1,4 +1,5 @@
--- `modulate::modulate::phase_step` meets its contract: each way gives the same step, the constant 1/2 being read from its bits. Assumes nothing.
+-- `modulate::modulate::phase_step` meets its contract: each way gives the same step, the constant 1/2 being read from
+-- its bits. Assumes nothing.
 use lib.Ieee.{ofBits, neg}
 use borrow.Author.Needs.{needs}
 use Rattle.ieee.proofs.Laws.Test.{yes}

@@ -1,4 +1,5 @@
--- `modulate::modulate::phase_step_fast` meets its contract: by the low bits of the sum, the constant 1.5 × 2^52 being read from its bits. Assumes nothing.
+-- `modulate::modulate::phase_step_fast` meets its contract: by the low bits of the sum, the constant 1.5 × 2^52 being
+-- read from its bits. Assumes nothing.
 use lib.Ieee.{ofBits}
 use native.Mathlib.Omega.{arith}
 use borrow.Author.Needs.{needs}

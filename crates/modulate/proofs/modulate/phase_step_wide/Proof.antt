@@ -1,4 +1,5 @@
--- `modulate::modulate::phase_step_wide` meets its contract: the ends by their tests, and between them by the floor, the constants being read from their bits. Assumes nothing.
+-- `modulate::modulate::phase_step_wide` meets its contract: the ends by their tests, and between them by the floor,
+-- the constants being read from their bits. Assumes nothing.
 use mathlib.Core.Bool.{not}
 use lib.Dec.{T}
 use lib.Ieee.{Float, binary64, ofBits, neg, le, lt, fits}

@@ -1,4 +1,5 @@
--- `modulate::single::phase_step_bits` meets its contract: its number is the law's, and below 2^14 each difference and sum has room. Assumes nothing.
+-- `modulate::single::phase_step_bits` meets its contract: its number is the law's, and below 2^14 each difference and
+-- sum has room. Assumes nothing.
 use mathlib.Core.Path.{_≡_, sym, ap, _∙_, subst}
 use Prim.Native.Nat.{ℕ, _+_, _-_, _/_, _%_, _^_, _≤_, _<_}
 use native.Mathlib.Omega.{arith}

@@ -1,4 +1,5 @@
--- `modulate::single::phase_step_f32` meets its contract: from the bits below 2^14 in size, else by the f64 form, which is the same for every f32. Assumes nothing.
+-- `modulate::single::phase_step_f32` meets its contract: from the bits below 2^14 in size, else by the f64 form,
+-- which is the same for every f32. Assumes nothing.
 use mathlib.Core.Path.{ap, _∙_}
 use lib.Dec.{T}
 use lib.Ieee.{Float, binary32, ofBits, neg, fits}

@@ -1,4 +1,5 @@
--- `plain_timing::complex::record_of` meets its contract: the parameters are the record of the state's, and the rest is as it is. Assumes nothing.
+-- `plain_timing::complex::record_of` meets its contract: the parameters are the record of the state's, and the rest
+-- is as it is. Assumes nothing.
 use borrow.Author.Needs.{needs}
 use Rattle.plain_timing.proofs.complex.record_of.Statement.{statement}
 use Rattle.plain_timing.proofs.complex.record_of.Tie as tie

@@ -1,4 +1,5 @@
--- `plain_timing::complex::run` meets its contract: the state goes in, runs, and its record comes out. Assumes nothing.
+-- `plain_timing::complex::run` meets its contract: the state goes in, runs, and its record comes out.
+-- Assumes nothing.
 use mathlib.Core.Path.{ap, _∙_}
 use Rattle.values.specs.declared.sample.C32.{C32}
 use Rattle.timing.specs.Run.{Sync, calledComplex}

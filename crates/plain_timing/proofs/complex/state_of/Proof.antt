@@ -1,4 +1,5 @@
--- `plain_timing::complex::state_of` meets its contract: the parameters are those that the record stands for, and the rest is as it is. Assumes nothing.
+-- `plain_timing::complex::state_of` meets its contract: the parameters are those that the record stands for, and the
+-- rest is as it is. Assumes nothing.
 use mathlib.Core.Path.{ap}
 use Rattle.plain_timing.specs.Complex.{syncOf}
 use Rattle.plain_timing.proofs.Laws.Faithful.{withParams}

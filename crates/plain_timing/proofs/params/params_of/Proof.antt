@@ -1,4 +1,5 @@
--- `plain_timing::params::params_of` meets its contract: the detector is the one that the code stands for. Assumes nothing.
+-- `plain_timing::params::params_of` meets its contract: the detector is the one that the code stands for.
+-- Assumes nothing.
 use mathlib.Core.Path.{ap}
 use Rattle.plain_timing.specs.Params.{paramsOf}
 use Rattle.plain_timing.proofs.Laws.Faithful.{withDetector}

@@ -1,4 +1,5 @@
--- `plain_timing::params::params_record` meets its contract: the code is the one that stands for the detector. Assumes nothing.
+-- `plain_timing::params::params_record` meets its contract: the code is the one that stands for the detector.
+-- Assumes nothing.
 use mathlib.Core.Path.{ap}
 use Rattle.plain_timing.specs.Params.{paramsRecord}
 use Rattle.plain_timing.proofs.Laws.Faithful.{withCode}

@@ -1,4 +1,5 @@
--- `receive_recording::block::call` meets its contract: its number and counts are those of the run's answer. Assumes nothing.
+-- `receive_recording::block::call` meets its contract: its number and counts are those of the run's answer.
+-- Assumes nothing.
 use mathlib.Core.Path.{ap, _∙_}
 use lib.Ieee.{ofBits}
 use Rattle.values.specs.declared.counts.Counts.{Counts}

@@ -1,4 +1,5 @@
--- `receive_recording::block::receive` meets its contract. The loop's invariant: what the definition makes of the rest of the block is what it makes of the whole. The measure is how many calls may follow. Assumes nothing.
+-- `receive_recording::block::receive` meets its contract. The loop's invariant: what the definition makes of the rest
+-- of the block is what it makes of the whole. The measure is how many calls may follow. Assumes nothing.
 use mathlib.Core.Path.{sym, ap, _∙_, subst}
 use mathlib.Core.Logic.{_⊎_, inl, inr}
 use Prim.Native.Nat.{_-_, _/_}

@@ -1,4 +1,5 @@
--- `receive_recording::input::fill` meets its contract. The loop's invariant: the buffer is as long as it was, and no more was read than it holds. The measure is what is left of it. Assumes nothing.
+-- `receive_recording::input::fill` meets its contract. The loop's invariant: the buffer is as long as it was, and no
+-- more was read than it holds. The measure is what is left of it. Assumes nothing.
 use mathlib.Core.Path.{_≡_, refl, sym}
 use Prim.Native.Nat.{_-_, _≤_}
 use native.Mathlib.Omega.{arith}

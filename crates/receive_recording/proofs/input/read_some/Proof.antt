@@ -1,4 +1,5 @@
--- `receive_recording::input::read_some` meets its contract: by what the last read answers. The loop's invariant: the buffer is as long as it was. The measure is how often the read may be tried again. Assumes nothing.
+-- `receive_recording::input::read_some` meets its contract: by what the last read answers. The loop's invariant: the
+-- buffer is as long as it was. The measure is how often the read may be tried again. Assumes nothing.
 use mathlib.Core.Path.{_≡_, refl}
 use lib.ListN.{length}
 use borrow.Author.Needs.{needs}

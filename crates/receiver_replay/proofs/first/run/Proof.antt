@@ -1,4 +1,5 @@
--- `receiver_replay::first::run` is safe: a part of a buffer that is no longer than the buffer has as many f32 as it should. Assumes nothing.
+-- `receiver_replay::first::run` is safe: a part of a buffer that is no longer than the buffer has as many f32 as it
+-- should. Assumes nothing.
 use mathlib.Core.Path.{sym}
 use lib.Seq.{length-take-le}
 use borrow.Author.Needs.{needs}

@@ -1,4 +1,5 @@
--- `recordings::little_endian` meets its contract. The loop's invariant: the value is what the bytes from place i on spell. The measure is i. Assumes nothing.
+-- `recordings::little_endian` meets its contract. The loop's invariant: the value is what the bytes from place i on
+-- spell. The measure is i. Assumes nothing.
 use mathlib.Core.Path.{_≡_, ap, _∙_}
 use mathlib.Core.List.{List}
 use Prim.Native.Nat.{ℕ, _+_, _-_, _*_, _^_, _<_, _≤_}

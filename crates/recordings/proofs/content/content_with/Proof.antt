@@ -1,4 +1,5 @@
--- `recordings::content_with` meets its contract. The loop's invariant: what the definition makes of the samples from here is what it makes of all. Assumes nothing.
+-- `recordings::content_with` meets its contract. The loop's invariant: what the definition makes of the samples from
+-- here is what it makes of all. Assumes nothing.
 use mathlib.Core.Path.{_≡_, refl}
 use Prim.Native.Nat.{_/_, _-_, _≤_}
 use native.Mathlib.Omega.{arith}

@@ -1,4 +1,5 @@
--- `recordings::defaults::carrier_defaults` meets its contract: the constants are the decimals, nearest in f64. Assumes nothing.
+-- `recordings::defaults::carrier_defaults` meets its contract: the constants are the decimals, nearest in f64.
+-- Assumes nothing.
 use mathlib.Core.Path.{refl}
 use lib.Ieee.{ofBits, round}
 use Rattle.recordings.proofs.defaults.carrier_defaults.Statement.{statement}

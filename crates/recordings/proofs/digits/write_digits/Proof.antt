@@ -1,4 +1,5 @@
--- `recordings::write_digits` meets its contract. The loop's invariant: the first k digits are stored. The measure is how many are left. Assumes nothing.
+-- `recordings::write_digits` meets its contract. The loop's invariant: the first k digits are stored. The measure is
+-- how many are left. Assumes nothing.
 use mathlib.Core.Path.{_≡_, refl, sym, ap, _∙_}
 use Prim.Native.Nat.{_-_, _≤_, min}
 use native.Mathlib.Omega.{arith}

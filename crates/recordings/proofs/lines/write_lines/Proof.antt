@@ -1,4 +1,5 @@
--- `recordings::write_lines` meets its contract. The loop's invariant: the digits before place i are laid out. The measure is how many are left. Assumes nothing.
+-- `recordings::write_lines` meets its contract. The loop's invariant: the digits before place i are laid out. The
+-- measure is how many are left. Assumes nothing.
 use mathlib.Core.Path.{_∙_}
 use Prim.Native.Nat.{_-_, min}
 use native.Mathlib.Omega.{arith}

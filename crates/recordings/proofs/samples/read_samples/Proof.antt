@@ -1,4 +1,5 @@
--- `recordings::read_samples` meets its contract. The loop's invariant: the first k f32 of the bytes stand at the front of the slice. Assumes nothing.
+-- `recordings::read_samples` meets its contract. The loop's invariant: the first k f32 of the bytes stand at the
+-- front of the slice. Assumes nothing.
 use mathlib.Core.Path.{_≡_, ap, _∙_, refl}
 use Prim.Native.Nat.{ℕ, _*_, _/_, _-_, _≤_}
 use native.Mathlib.Omega.{arith}

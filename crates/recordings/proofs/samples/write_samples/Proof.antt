@@ -1,4 +1,5 @@
--- `recordings::write_samples` meets its contract. The loop's invariant: the bytes of the first k f32 stand at the front. Assumes nothing.
+-- `recordings::write_samples` meets its contract. The loop's invariant: the bytes of the first k f32 stand at
+-- the front. Assumes nothing.
 use mathlib.Core.Path.{_≡_, ap, _∙_}
 use Prim.Native.Nat.{ℕ, _*_, _/_, _-_, _≤_}
 use native.Mathlib.Omega.{arith}

@@ -9,7 +9,7 @@ use Rattle.sample_calls.proofs.Laws.Accepted as accepted
 use Rattle.sample_calls.proofs.call.accepted.Statement.{statement}
 use Rattle.sample_calls.proofs.call.accepted.Tie as tie
 
--- what is known of the buffers once timing has run: they are as long as each other, and the strobes produced lie in them
+-- what is known of the buffers once timing has run: they are equally long, and the strobes produced lie in them
 record Room (c : tie.After-recover) : Type 0 where
   same : length (c .recover .last .1 .1 .0) ≡ length (c .before .before .before .before .before .before .before .args .output .now)
   fits : 2 * c .recover .result .progress .produced ≤ length (c .before .before .before .before .before .before .before .args .output .now)

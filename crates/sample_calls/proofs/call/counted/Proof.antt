@@ -1,4 +1,5 @@
--- `sample_calls::call::counted` meets its contract: the count stops where less room is left than there are symbols. Assumes nothing.
+-- `sample_calls::call::counted` meets its contract: the count stops where less room is left than there are symbols.
+-- Assumes nothing.
 use mathlib.Core.Path.{sym, ap}
 use mathlib.Core.Bool.{Bool, cond}
 use Prim.Native.Nat.{ℕ, _+_}

@@ -1,4 +1,5 @@
--- `sample_calls::call::receive` meets its contract: it is the entry of the crate `lent`, with two outputs, at the receiver and its answer. Assumes nothing.
+-- `sample_calls::call::receive` meets its contract: it is the entry of the crate `lent`, with two outputs, at the
+-- receiver and its answer. Assumes nothing.
 use mathlib.Core.Path.{_≡_, refl}
 use Rattle.receiver.specs.Record.{Given}
 use Rattle.sample_calls.specs.Call.{called, outcomeOf, answered}

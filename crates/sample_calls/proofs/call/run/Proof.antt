@@ -1,4 +1,5 @@
--- `sample_calls::run` meets its contract: an odd buffer is refused, then lengths that differ, and else the call is what `accepted` ensures. Assumes nothing.
+-- `sample_calls::run` meets its contract: an odd buffer is refused, then lengths that differ, and else the call is
+-- what `accepted` ensures. Assumes nothing.
 use mathlib.Core.Path.{_≡_, sym, ap, _∙_, subst}
 use mathlib.Core.Logic.{inl, inr}
 use mathlib.Core.Bool.{true, false}

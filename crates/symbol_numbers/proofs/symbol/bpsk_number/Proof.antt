@@ -1,4 +1,5 @@
--- `symbol_numbers::symbol::bpsk_number` meets its contract: each arm is what the definition picks there. Assumes nothing.
+-- `symbol_numbers::symbol::bpsk_number` meets its contract: each arm is what the definition picks there.
+-- Assumes nothing.
 use mathlib.Core.Path.{sym}
 use mathlib.Core.Bool.{Bool, _&&_, _||_, cond}
 use Prim.Native.Nat.{ℕ}

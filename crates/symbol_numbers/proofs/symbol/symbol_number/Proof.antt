@@ -1,4 +1,5 @@
--- `symbol_numbers::symbol_number` meets its contract: each arm is what the definition picks for that constellation. Assumes nothing.
+-- `symbol_numbers::symbol_number` meets its contract: each arm is what the definition picks for that constellation.
+-- Assumes nothing.
 use mathlib.Core.Path.{sym, ap, _∙_}
 use Prim.Native.Nat.{ℕ, _/_}
 use borrow.Author.Needs.{needs}

@@ -1,4 +1,5 @@
--- `tables::cosines::cos_f32_table` meets its contract: the code's table is the definition's list, entry by entry, as antt computes it. Assumes nothing.
+-- `tables::cosines::cos_f32_table` meets its contract: the code's table is the definition's list, entry by entry, as
+-- antt computes it. Assumes nothing.
 use mathlib.Core.Path.{refl}
 use Rattle.cosine.specs.Bits.{cosBits}
 use Rattle.cosine.specs.Table.{cosList}

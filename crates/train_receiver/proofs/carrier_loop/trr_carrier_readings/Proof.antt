@@ -1,4 +1,5 @@
--- `train_receiver::carrier_loop::trr_carrier_readings` meets its contract: the four readings are the state's own. Assumes nothing.
+-- `train_receiver::carrier_loop::trr_carrier_readings` meets its contract: the four readings are the state's own.
+-- Assumes nothing.
 use mathlib.Core.Path.{ap, _∙_}
 use Rattle.carrier.specs.declared.state.CostasState.{CostasState}
 use Rattle.train_receiver.specs.Readings.{carrierReadings}

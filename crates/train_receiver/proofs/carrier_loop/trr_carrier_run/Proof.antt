@@ -1,4 +1,5 @@
--- `train_receiver::carrier_loop::trr_carrier_run` meets its contract: it is the entry of the crate `lent`, with one output, at the carrier's record and its number. Assumes nothing.
+-- `train_receiver::carrier_loop::trr_carrier_run` meets its contract: it is the entry of the crate `lent`, with one
+-- output, at the carrier's record and its number. Assumes nothing.
 use mathlib.Core.Path.{_≡_, refl}
 use Rattle.carrier.specs.Run.{called}
 use Rattle.plain_carrier.specs.Carrier.{stateOf, outcomeOf, Given}

@@ -1,4 +1,5 @@
--- `train_receiver::carrier_loop::trr_carrier_set_frequency` meets its contract: the state goes in, takes the frequency, and its record comes out. Assumes nothing.
+-- `train_receiver::carrier_loop::trr_carrier_set_frequency` meets its contract: the state goes in, takes the
+-- frequency, and its record comes out. Assumes nothing.
 use mathlib.Core.Path.{ap, _∙_}
 use Rattle.carrier.specs.declared.state.CostasState.{CostasState}
 use Rattle.carrier.specs.State.{frequencySet}

@@ -1,4 +1,5 @@
--- `train_receiver::carrier_loop::trr_carrier_set_up` meets its contract: the set-up's answer, with the code's constellation. Assumes nothing.
+-- `train_receiver::carrier_loop::trr_carrier_set_up` meets its contract: the set-up's answer, with the code's
+-- constellation. Assumes nothing.
 use mathlib.Core.Path.{ap, _∙_}
 use Rattle.constellations.specs.declared.kinds.CostasConstellation.{CostasConstellation}
 use Rattle.carrier.specs.declared.state.SetUp.{SetUp}

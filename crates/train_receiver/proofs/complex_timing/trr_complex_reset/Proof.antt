@@ -1,4 +1,5 @@
--- `train_receiver::complex_timing::trr_complex_reset` meets its contract: the state goes in, is reset, and its record comes out. Assumes nothing.
+-- `train_receiver::complex_timing::trr_complex_reset` meets its contract: the state goes in, is reset, and its record
+-- comes out. Assumes nothing.
 use mathlib.Core.Path.{ap, _∙_}
 use Rattle.values.specs.declared.sample.C32.{C32}
 use Rattle.timing.specs.Sample.{complex}

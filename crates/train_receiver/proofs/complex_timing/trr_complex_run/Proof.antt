@@ -1,4 +1,5 @@
--- `train_receiver::complex_timing::trr_complex_run` meets its contract: it is the entry of the crate `lent`, with one output, at the complex loop's record and its answer. Assumes nothing.
+-- `train_receiver::complex_timing::trr_complex_run` meets its contract: it is the entry of the crate `lent`, with one
+-- output, at the complex loop's record and its answer. Assumes nothing.
 use mathlib.Core.Path.{_≡_, refl}
 use Rattle.timing.specs.Run.{calledComplex}
 use Rattle.plain_timing.specs.Complex.{syncOf, outcomeOf, Given}

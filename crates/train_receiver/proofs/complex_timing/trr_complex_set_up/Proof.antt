@@ -1,4 +1,5 @@
--- `train_receiver::complex_timing::trr_complex_set_up` meets its contract: the set-up's answer, with the code's detector. Assumes nothing.
+-- `train_receiver::complex_timing::trr_complex_set_up` meets its contract: the set-up's answer, with the code's
+-- detector. Assumes nothing.
 use mathlib.Core.Path.{ap, _∙_}
 use Rattle.values.specs.declared.sample.C32.{C32}
 use Rattle.timing.specs.declared.params.Ted.{Ted}

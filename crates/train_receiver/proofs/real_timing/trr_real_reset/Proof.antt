@@ -1,4 +1,5 @@
--- `train_receiver::real_timing::trr_real_reset` meets its contract: the state goes in, is reset, and its record comes out. Assumes nothing.
+-- `train_receiver::real_timing::trr_real_reset` meets its contract: the state goes in, is reset, and its record
+-- comes out. Assumes nothing.
 use mathlib.Core.Path.{ap, _∙_}
 use lib.Ieee.{Float}
 use Rattle.timing.specs.Sample.{real}

@@ -1,4 +1,5 @@
--- `train_receiver::real_timing::trr_real_run` meets its contract: it is the entry of the crate `lent`, with one output, at the real loop's record and its counts. Assumes nothing.
+-- `train_receiver::real_timing::trr_real_run` meets its contract: it is the entry of the crate `lent`, with one
+-- output, at the real loop's record and its counts. Assumes nothing.
 use mathlib.Core.Path.{_≡_, refl}
 use Rattle.timing.specs.Run.{calledReal}
 use Rattle.real_sync.specs.Views.{outcomeOf}

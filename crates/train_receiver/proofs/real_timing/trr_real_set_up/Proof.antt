@@ -1,4 +1,5 @@
--- `train_receiver::real_timing::trr_real_set_up` meets its contract: the set-up's answer, with the code's detector. Assumes nothing.
+-- `train_receiver::real_timing::trr_real_set_up` meets its contract: the set-up's answer, with the code's detector.
+-- Assumes nothing.
 use mathlib.Core.Path.{ap, _∙_}
 use lib.Ieee.{Float}
 use Rattle.timing.specs.declared.params.Ted.{Ted}

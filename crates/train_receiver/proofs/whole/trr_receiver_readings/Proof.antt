@@ -1,4 +1,5 @@
--- `train_receiver::whole::trr_receiver_readings` meets its contract: both loops' readings, and the count. Assumes nothing.
+-- `train_receiver::whole::trr_receiver_readings` meets its contract: both loops' readings, and the count.
+-- Assumes nothing.
 use borrow.Author.Needs.{needs}
 use Rattle.train_receiver.proofs.whole.trr_receiver_readings.Statement.{statement}
 use Rattle.train_receiver.proofs.whole.trr_receiver_readings.Tie as tie

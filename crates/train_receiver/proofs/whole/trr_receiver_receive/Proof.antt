@@ -1,4 +1,5 @@
--- `train_receiver::whole::trr_receiver_receive` meets its contract: it is the entry of the crate `lent`, with two outputs, at the receiver's record and its answer. Assumes nothing.
+-- `train_receiver::whole::trr_receiver_receive` meets its contract: it is the entry of the crate `lent`, with two
+-- outputs, at the receiver's record and its answer. Assumes nothing.
 use mathlib.Core.Path.{_≡_, refl}
 use Rattle.sample_calls.specs.Call.{called}
 use Rattle.plain_receiver.specs.Receiver.{receiverOf, outcomeOf, Given}

@@ -1,4 +1,5 @@
--- `train_receiver::whole::trr_receiver_set_up` meets its contract: the set-up's answer, with the code's constellation and the record's values. Assumes nothing.
+-- `train_receiver::whole::trr_receiver_set_up` meets its contract: the set-up's answer, with the code's constellation
+-- and the record's values. Assumes nothing.
 use mathlib.Core.Path.{ap, _∙_}
 use Rattle.plain_receiver.specs.Receiver.{setUpOf}
 use Rattle.receiver.specs.Record.{opened}

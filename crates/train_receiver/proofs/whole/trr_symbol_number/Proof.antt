@@ -1,4 +1,5 @@
--- `train_receiver::whole::trr_symbol_number` meets its contract: the symbol number under the code's constellation. Assumes nothing.
+-- `train_receiver::whole::trr_symbol_number` meets its contract: the symbol number under the code's constellation.
+-- Assumes nothing.
 use mathlib.Core.Path.{ap, _∙_}
 use Rattle.constellations.specs.declared.kinds.CostasConstellation.{CostasConstellation}
 use Rattle.symbol_numbers.specs.Symbol.{symbolOf}
