@@ -45,7 +45,11 @@ fn sources_folder(here: &Path) -> PathBuf {
     let folder = here.join(given).join(CRATE);
     folder.canonicalize().unwrap_or_else(|error| {
         panic!(
-            "SDRK_SRC must name the folder that holds {CRATE}; {} cannot be read: {error}",
+            "the original's files are not there: {} cannot be read ({error}). Clone \
+             https://github.com/Andste82/sdrk, check out commit 907c296844 and set SDRK_SRC to the top of \
+             that clone, the folder that holds {CRATE}; a relative path is seen from the folder oracle. \
+             Without SDRK_SRC the build looks in {DEFAULT_SOURCES}. README.md, section \"The sources\", has \
+             the commands.",
             folder.display()
         )
     })
@@ -75,7 +79,11 @@ fn module_tree(here: &Path, sources: &Path) -> String {
 
 /// One file, taken in unchanged where it lies.
 fn module(file: &Path, name: &str) -> String {
-    assert!(file.is_file(), "there is no {}", file.display());
+    assert!(
+        file.is_file(),
+        "there is no {}; of the original, commit 907c296844 is needed (README.md, section \"The sources\")",
+        file.display()
+    );
     println!("cargo::rerun-if-changed={}", file.display());
     let path = file.to_str().expect("a path that is text");
     format!("{ALLOW}\n#[path = {path:?}]\npub mod {name};\n")

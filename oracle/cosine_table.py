@@ -151,7 +151,7 @@ def value_of(bits):
 
 
 def check_rules(patterns):
-    """The rules that document 01 states over all entries, in exact fractions."""
+    """The rules C10 and C11 of docs/SPECIFICATION.md over all entries, in exact fractions."""
     c = [value_of(b) for b in patterns]
     rules = {
         "4,097 entries": len(c) == TURN + 1,

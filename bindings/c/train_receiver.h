@@ -2,41 +2,44 @@
  * The train report receiver for C and C++: symbol timing recovery and carrier recovery.
  *
  * These are the declarations of libtrain_receiver.a, which `rt staticlib train_receiver` writes. The
- * contract of each function stands in crates/train_receiver/src. Document 01 settles what every function
- * answers; sentences in quotation marks are taken from it.
+ * contract of each function stands in crates/train_receiver/src. Labels such as (T8) are those of
+ * docs/SPECIFICATION.md, which states the whole behaviour.
  *
  * What holds for every function:
  *
- * - Records. "A state or record is one that a set-up, reset, setter or run has given; a contract may
- *   require this and nothing else." A refused set-up has given none. The fields may be read. Nobody
- *   but the library may write them. A record may be copied; the copy is a record too.
+ * - Records. A record that is handed to a function must come from a set-up, a reset, a setter or a run of
+ *   this library (A9). A refused set-up gives none. The fields may be read. Nobody but the library may
+ *   write them. A record may be copied; the copy is a record too.
  * - Padding. Some records have bytes between their fields. They are no part of the record, and two
  *   equal records may differ in them. Compare records field by field, never with memcmp.
- * - Refused set-ups. The answer's record then holds zeros and must not be used. What a call does with
- *   it is not settled. Today every call with it ends, and a run answers as if it were done.
+ * - Refused set-ups. The answer's record then holds zeros and must not be used (L3). What a call does with
+ *   it is not specified. Today every call with it ends, and a run answers as if it were done.
  *   trr_real_run reads a float that stands 16 bytes in front of its input, which may end the program.
  *   The other runs keep to their buffers. Timing fills the output with values that mean nothing, and
  *   in later runs it consumes everything and produces nothing. The carrier passes its input on as it is.
- * - Results. A reset or a setter changes nothing in place: it answers the new record. A run that is
+ * - Results. A reset or a setter changes nothing in place: it answers the new record (L5). A run that is
  *   refused says so in its answer alone. So every function is marked TRR_MUST_USE, and a compiler
  *   that knows such a mark warns where an answer is dropped.
- * - Buffers. A buffer is a pointer to f32 (float) and a count of f32. "A complex sample is two f32, real
- *   part first", so a complex buffer of n samples has the count 2 * n. The answers `consumed` and
- *   `produced` count samples.
- * - Pointers. No pointer may be null, even where the count is 0. "Empty buffers are accepted."
+ * - Buffers. A buffer is a pointer to f32 (float) and a count of f32. A complex sample is a pair of f32, the
+ *   real part before the imaginary one, so a complex buffer of n samples has the count 2 * n. The answers
+ *   `consumed` and `produced` count samples (A1).
+ * - Pointers. No pointer may be null, even where the count is 0. Any buffer may be empty (A8).
  * - Overlap. The record and the buffers of one call must not overlap each other.
- * - Refusals. The answer is one of the numbers of enum trr_number. "Lowest number first in a set-up; in
- *   a run 8 before 7." "A refused set-up yields its number and no state. A refused run yields its number,
- *   counts 0 and 0 (the carrier alone has no counts), the same state, and every buffer unchanged."
+ * - Refusals. The answer is one of the numbers of enum trr_number (A2). If several values of a set-up are
+ *   wrong, the lowest number is answered (A4); a receiver's set-up looks at timing's values before the
+ *   carrier's (R4). A run looks for odd counts first (8), then for unequal lengths (7) (A5). A refused
+ *   set-up gives no record (A6). A refused run gives counts of 0 (a carrier's answer has no counts) and
+ *   leaves its record and every buffer as found (A7).
  * - Codes. A detector is a code of enum trr_detector, a constellation one of enum trr_constellation.
- *   Any other code reads as the last one of its enum. The library writes none but the named codes.
- * - Threads. The library keeps nothing between calls: the record holds the whole state. Two threads must
- *   not use one record at the same time if one of the calls writes it.
+ *   Any other code reads as the last one of its enum (L4). The library writes none but the named codes.
+ * - Threads. The library keeps nothing between calls (L7): the record holds the whole state. Two threads
+ *   must not use one record at the same time if one of the calls writes it.
  * - Stack. trr_receiver_receive and trr_carrier_run take about 17 KB of stack (17,416 bytes measured),
  *   since the cosine table is stored there; any other function takes less than 1 KB. How long the
- *   buffers are does not matter. Nothing is taken from the heap. bindings/c/stack.c measures it.
+ *   buffers are does not matter. Nothing is taken from the heap (L7). bindings/c/stack.c measures it.
  * - Floating point. A call needs the rounding mode and the handling of subnormal numbers that a C program
- *   starts with. Do not link with -ffast-math: it changes the latter.
+ *   starts with: round to nearest, subnormal numbers kept (N1). Do not link with -ffast-math: it changes
+ *   the latter.
  */
 #ifndef TRAIN_RECEIVER_H
 #define TRAIN_RECEIVER_H
@@ -62,11 +65,19 @@ extern "C" {
 
 /* ---- Codes and numbers */
 
-/** The timing error detectors. */
+/**
+ * The timing error detectors. Gardner's needs no carrier lock. Mueller-Müller's decides on strobes from which
+ * the carrier is not removed yet, so that under QPSK and 8-PSK a carrier offset can make it slip symbols or
+ * fail; at a loop bandwidth of 0.01 an offset of 0.0005 cycles per symbol is enough for that. Prefer
+ * Gardner's unless the carrier is removed first. docs/THEORY.md has the measured table.
+ */
 enum trr_detector {
-    /** "(previous - strobe) × middle, real product plus imaginary". */
+    /** Gardner: the last strobe less this one, times the midpoint sample (middle) between the two. For
+     *  complex samples, the product of the real parts and that of the imaginary parts are added (T14). */
     TRR_GARDNER = 0,
-    /** "previous decision times strobe, minus decision times previous strobe". */
+    /** Mueller-Müller: the last strobe's decision times this strobe, less this strobe's decision times the
+     *  last strobe, added likewise. A decision is the sign of each part: 1, -1, or 0 for a zero or NaN
+     *  (T15). */
     TRR_MUELLER_MUELLER = 1
 };
 
@@ -77,26 +88,33 @@ enum trr_constellation {
     TRR_PSK8 = 2
 };
 
-/** What a call answers: 0 where it is done, otherwise the number in document 01's table. */
+/**
+ * What a call answers: 0 if it is done, else the number of its refusal. A refusal is given where its
+ * condition holds and no other refusal comes before it, and nowhere else (A2). Ranges include their ends,
+ * and minus zero is 0 (A3).
+ */
 enum trr_number {
     /** The call is done. */
     TRR_DONE = 0,
-    /** "sps is not finite or not in 2 to 1,000,000". */
+    /** The samples per symbol (pace) are not a finite number from 2 to 1,000,000 (E1). */
     TRR_PACE = 1,
-    /** "loop bandwidth is not finite or not in 0.0001 to 0.1 (timing), 0.0001 to 0.2 (carrier)". */
+    /** The loop bandwidth (width), a fraction of the symbol rate, is not a finite number from 0.0001 to 0.1
+     *  (timing) or from 0.0001 to 0.2 (carrier) (E2). */
     TRR_WIDTH = 2,
-    /** The damping is "not finite or not in 0.1 to 4". */
+    /** The damping is not a finite number from 0.1 to 4 (E3). */
     TRR_DAMPING = 3,
-    /** "maximum deviation (timing) not finite or not in 0 to 0.05; maximum offset (carrier, cycles per
-     *  symbol) not finite or not in 0 to 0.25". */
+    /** Timing: the maximum deviation (pull), a fraction of the samples per symbol, is not a finite number
+     *  from 0 to 0.05. Carrier: the maximum frequency offset (pull) is not a finite number from 0 to 0.25
+     *  cycles per symbol (E4). */
     TRR_PULL = 4,
-    /** "detector gain not finite or not above 0". */
+    /** The detector gain (slope) is not a finite number above 0 (E5). */
     TRR_SLOPE = 5,
-    /** "a timing gain comes out not finite". */
+    /** A gain of the timing loop, kp or ki, that follows from the values (T3) is not finite (E6). */
     TRR_GAINS = 6,
-    /** "the carrier's input and output, or the receiver's strobe buffer and output, differ in length". */
+    /** Two buffers are not equally long: the carrier's input and output, or the receiver's strobe buffer and
+     *  output (E7). */
     TRR_UNEVEN = 7,
-    /** "a complex buffer has an odd count of f32". */
+    /** The count of f32 of a complex buffer is odd (E8). */
     TRR_ODD = 8
 };
 
@@ -132,13 +150,13 @@ TRR_MUST_USE static inline const char *trr_number_text(uint32_t number)
 
 /* ---- Samples and counts */
 
-/** A complex sample. */
+/** A complex sample (A1). */
 typedef struct trr_c32 {
     float re;
     float im;
 } trr_c32;
 
-/** The counts of a call that is never refused, in samples. */
+/** The counts of a call that is never refused, in samples. No count is above what was lent (A10). */
 typedef struct trr_progress {
     /** Input samples consumed. The next call's input begins with the first one that is not. */
     size_t consumed;
@@ -146,7 +164,8 @@ typedef struct trr_progress {
     size_t produced;
 } trr_progress;
 
-/** The number of a call and its counts, in samples. Both counts are 0 where the number is not. */
+/** The number of a call and its counts, in samples. Both counts are 0 where the number is not (A7). No count
+ *  is above what was lent (A10). */
 typedef struct trr_counts {
     /** One of enum trr_number. */
     uint32_t number;
@@ -158,23 +177,25 @@ typedef struct trr_counts {
 
 /* ---- Timing: types */
 
-/** What a timing loop is set up with. "Ends of ranges are accepted". */
+/** What a timing loop is set up with (T2). Each range includes its ends (A3). */
 typedef struct trr_timing_values {
-    /** Samples per symbol, 2 to 1,000,000. */
+    /** Samples per symbol (pace), 2 to 1,000,000. */
     double sps;
-    /** The detector: one of enum trr_detector. */
+    /** The timing error detector: one of enum trr_detector. */
     uint32_t ted;
-    /** Loop bandwidth as a fraction of the symbol rate, 0.0001 to 0.1. */
+    /** Loop bandwidth (width) as a fraction of the symbol rate, 0.0001 to 0.1. */
     double loop_bw;
     /** Damping, 0.1 to 4; 1/sqrt(2) is usual. */
     double damping;
-    /** Largest deviation of the pace from sps, as a fraction of sps, 0 to 0.05. */
+    /** Maximum deviation (pull) of the tracked samples per symbol from sps, as a fraction of sps, 0 to
+     *  0.05. */
     double max_deviation;
-    /** Detector gain, above 0: the detector's value divided by the offset in symbols, for small offsets. */
+    /** Detector gain (slope), above 0: the detector's output divided by the timing offset in symbols, for
+     *  small offsets. */
     double ted_gain;
 } trr_timing_values;
 
-/** The parameters of a timing state: the values of the set-up, and what is worked out of them. */
+/** The parameters of a timing state: the values of the set-up, and what follows from them (T3). */
 typedef struct trr_timing_params {
     double sps;
     uint32_t ted;
@@ -182,23 +203,23 @@ typedef struct trr_timing_params {
     double damping;
     double max_deviation;
     double ted_gain;
-    /** Proportional gain, in samples per unit of the detector. */
+    /** Proportional gain, in samples per unit of the detector's output. */
     double kp;
-    /** Integral gain, in samples per unit of the detector. */
+    /** Integral gain, in samples per unit of the detector's output. */
     double ki;
     /** Limit of the integrator, in samples. */
     double lim;
 } trr_timing_params;
 
-/** The clock of a timing state. */
+/** The clock of a timing state (T5, T22). */
 typedef struct trr_clock {
     /** Position of the next strobe, in samples from the first one of the history: the whole part. */
     size_t i;
-    /** The fraction of that position, from 0 up to but not 1. */
+    /** The fraction of that position, from 0 up to but not including 1. */
     double mu;
-    /** Spacing of the strobes, in samples. */
+    /** Spacing of the strobes, in samples: the tracked samples per symbol (pace). */
     double omega;
-    /** Integrator of the loop filter, in samples. */
+    /** Integrator of the loop filter, in samples, from -lim to lim. */
     double integ;
 } trr_clock;
 
@@ -223,10 +244,10 @@ typedef struct trr_real_track {
     float y_prev;
     /** The previous decision. */
     float d_prev;
-    /** The middle sample, where mid_ready. */
+    /** The midpoint sample (middle) between the last strobe and the next, where mid_ready. */
     float mid;
     bool mid_ready;
-    /** Whether there was a strobe. */
+    /** Whether there was a strobe since the set-up or the last reset. */
     bool started;
 } trr_real_track;
 
@@ -237,21 +258,21 @@ typedef struct trr_complex_track {
     trr_c32 y_prev;
     /** The previous decision. */
     trr_c32 d_prev;
-    /** The middle sample, where mid_ready. */
+    /** The midpoint sample (middle) between the last strobe and the next, where mid_ready. */
     trr_c32 mid;
     bool mid_ready;
-    /** Whether there was a strobe. */
+    /** Whether there was a strobe since the set-up or the last reset. */
     bool started;
 } trr_complex_track;
 
-/** The state of a timing loop over real samples. */
+/** The state of a timing loop over real samples (T5). */
 typedef struct trr_real_timing {
     trr_timing_params params;
     trr_real_hist hist;
     trr_real_track track;
 } trr_real_timing;
 
-/** The state of a timing loop over complex samples. */
+/** The state of a timing loop over complex samples (T5). */
 typedef struct trr_complex_timing {
     trr_timing_params params;
     trr_complex_hist hist;
@@ -263,7 +284,7 @@ typedef struct trr_real_set_up_answer {
     /** One of enum trr_number. */
     uint32_t number;
     /** The state where the number is 0. Otherwise it is no state: all its fields are 0, and it must not
-     *  be used. */
+     *  be used (L3). */
     trr_real_timing state;
 } trr_real_set_up_answer;
 
@@ -272,7 +293,7 @@ typedef struct trr_complex_set_up_answer {
     /** One of enum trr_number. */
     uint32_t number;
     /** The state where the number is 0. Otherwise it is no state: all its fields are 0, and it must not
-     *  be used. */
+     *  be used (L3). */
     trr_complex_timing state;
 } trr_complex_set_up_answer;
 
@@ -281,33 +302,35 @@ typedef struct trr_timing_readings_answer {
     /** The values of the set-up. */
     trr_timing_values values;
     /** Position of the next strobe in samples, counted from the first sample of the next call's input.
-     *  It is negative while the strobe lies before that sample. */
+     *  It is negative while the strobe lies before that sample (T21). */
     double next_strobe;
-    /** The pace: the estimate of the samples per symbol. */
+    /** The tracked samples per symbol (pace): the estimate of how many samples a symbol has (T21). */
     double sps_estimate;
 } trr_timing_readings_answer;
 
 /* ---- Timing of real samples */
 
-/** Sets up a timing loop over real samples. Numbers: 0, and 1 to 6. */
+/** Sets up a timing loop over real samples. Numbers: 0, and 1 to 6 (T4). */
 TRR_MUST_USE
 trr_real_set_up_answer trr_real_set_up(trr_timing_values v);
 
-/** Answers the state as it was just after its set-up. */
+/** Answers the state as it was just after its set-up (T6). */
 TRR_MUST_USE
 trr_real_timing trr_real_reset(trr_real_timing x);
 
-/** Answers what the state tells about itself. */
+/** Answers the values of the set-up, the position of the next strobe and the tracked samples per symbol
+ *  (T21). */
 TRR_MUST_USE
 trr_timing_readings_answer trr_real_readings(trr_real_timing x);
 
 /**
- * Runs the loop over the input and writes the strobes to the front of the output. The record is
- * brought up to date. It is never refused: "Real timing (f32 samples) has no refusal in a run."
+ * Runs the loop over the input and writes the strobes, the samples at the symbols' instants, to the front of
+ * the output. The new state is left in the record. A run on real samples is never refused (T1).
  *
- * The run ends where the output is full or where the next strobe needs more input. In the latter case
- * all input is consumed. Output places behind the last strobe stay as found. What was not consumed is
- * to be handed again, in front of the next samples.
+ * The run ends where the output's capacity (places) is used up or where the next strobe needs more input
+ * (T9, T12). In the latter case all input is consumed. Output places behind the last strobe stay as found
+ * (A10). Hand again what was not consumed, in front of the next samples: then it makes no difference how a
+ * recording is cut into calls (B1).
  */
 TRR_MUST_USE
 trr_progress trr_real_run(trr_real_timing *x,
@@ -316,26 +339,28 @@ trr_progress trr_real_run(trr_real_timing *x,
 
 /* ---- Timing of complex samples */
 
-/** Sets up a timing loop over complex samples. Numbers: 0, and 1 to 6. */
+/** Sets up a timing loop over complex samples. Numbers: 0, and 1 to 6 (T4). */
 TRR_MUST_USE
 trr_complex_set_up_answer trr_complex_set_up(trr_timing_values v);
 
-/** Answers the state as it was just after its set-up. */
+/** Answers the state as it was just after its set-up (T6). */
 TRR_MUST_USE
 trr_complex_timing trr_complex_reset(trr_complex_timing x);
 
-/** Answers what the state tells about itself. */
+/** Answers the values of the set-up, the position of the next strobe and the tracked samples per symbol
+ *  (T21). */
 TRR_MUST_USE
 trr_timing_readings_answer trr_complex_readings(trr_complex_timing x);
 
 /**
- * Runs the loop over the input and writes the strobes to the front of the output. The record is
- * brought up to date. Numbers: 0, and 8 where a count is odd. A refused run leaves the record and the
- * output as found.
+ * Runs the loop over the input and writes the strobes, the samples at the symbols' instants, to the front of
+ * the output. The new state is left in the record. Numbers: 0, and 8 where a count is odd (T1). A refused run
+ * leaves the record and the output as found (A7).
  *
- * The run ends where the output is full or where the next strobe needs more input. In the latter case
- * all input is consumed. Output places behind the last strobe stay as found. What was not consumed is
- * to be handed again, in front of the next samples.
+ * The run ends where the output's capacity (places) is used up or where the next strobe needs more input
+ * (T9, T12). In the latter case all input is consumed. Output places behind the last strobe stay as found
+ * (A10). Hand again what was not consumed, in front of the next samples: then it makes no difference how a
+ * recording is cut into calls (B1).
  */
 TRR_MUST_USE
 trr_counts trr_complex_run(trr_complex_timing *x,
@@ -344,38 +369,38 @@ trr_counts trr_complex_run(trr_complex_timing *x,
 
 /* ---- Carrier: types */
 
-/** What a carrier loop is set up with beside its constellation. "Ends of ranges are accepted". */
+/** What a carrier loop is set up with beside its constellation (C2). Each range includes its ends (A3). */
 typedef struct trr_carrier_values {
-    /** Loop bandwidth as a fraction of the symbol rate, 0.0001 to 0.2. */
+    /** Loop bandwidth (width) as a fraction of the symbol rate, 0.0001 to 0.2. */
     double loop_bw;
     /** Damping, 0.1 to 4; 1/sqrt(2) is usual. */
     double damping;
-    /** Largest frequency offset, in cycles per symbol, 0 to 0.25. */
+    /** Maximum frequency offset (pull), in cycles per symbol, 0 to 0.25. */
     double max_offset;
 } trr_carrier_values;
 
-/** The parameters of a carrier state: the values of the set-up, and what is worked out of them. */
+/** The parameters of a carrier state: the values of the set-up, and what follows from them (C3, C5). */
 typedef struct trr_carrier_params {
     double loop_bw;
     double damping;
     double max_offset;
-    /** Proportional gain, in cycles per symbol per unit of the detector. */
+    /** Proportional gain, in cycles per symbol per unit of the detector's output. */
     float kp;
-    /** Integral gain, in cycles per symbol per unit of the detector. */
+    /** Integral gain, in cycles per symbol per unit of the detector's output. */
     float ki;
-    /** Limit of the frequency, in cycles per symbol. */
+    /** Limit of the frequency, in cycles per symbol: max_offset as an f32, or 0 if that is below 1e-30. */
     float max;
 } trr_carrier_params;
 
-/** The oscillator. */
+/** The oscillator (C6). */
 typedef struct trr_nco {
-    /** Phase before the next symbol: "32 bits are one turn". */
+    /** Phase before the next symbol, in units of 2^-32 turn. */
     uint32_t phase;
-    /** Frequency, in cycles per symbol. */
+    /** Frequency, in cycles per symbol, from -max to max (C22). */
     float freq;
 } trr_nco;
 
-/** The lock detector. */
+/** The lock detector (C20). */
 typedef struct trr_lock {
     /** The smoothed lock measure. */
     float level;
@@ -389,7 +414,7 @@ typedef struct trr_carrier_track {
     trr_lock lock;
 } trr_carrier_track;
 
-/** The state of a carrier loop. */
+/** The state of a carrier loop (C6). */
 typedef struct trr_carrier {
     /** One of enum trr_constellation. */
     uint32_t constellation;
@@ -402,11 +427,11 @@ typedef struct trr_carrier_set_up_answer {
     /** One of enum trr_number. */
     uint32_t number;
     /** The state where the number is 0. Otherwise it is no state: all its fields are 0, and it must not
-     *  be used. */
+     *  be used (L3). */
     trr_carrier state;
 } trr_carrier_set_up_answer;
 
-/** The answer of trr_carrier_readings. */
+/** The answer of trr_carrier_readings (C21). */
 typedef struct trr_carrier_readings_answer {
     /** One of enum trr_constellation. */
     uint32_t constellation;
@@ -414,41 +439,44 @@ typedef struct trr_carrier_readings_answer {
     trr_carrier_values values;
     /** Frequency, in cycles per symbol: the estimate of the carrier's offset. */
     double frequency;
-    /** Phase before the next symbol: "32 bits are one turn". */
+    /** Phase before the next symbol, in units of 2^-32 turn. */
     uint32_t phase;
     /** The smoothed lock measure. */
     float lock_level;
-    /** Whether there is lock: a level "above 0.5 sets lock, below 0.3 clears it". */
+    /** Whether there is lock. A level above 0.5 sets lock, one below 0.3 clears it, and between the two it
+     *  stays as it was (C20). */
     bool locked;
 } trr_carrier_readings_answer;
 
 /* ---- Carrier */
 
-/** Sets up a carrier loop. Numbers: 0, 2, 3 and 4. */
+/** Sets up a carrier loop. Numbers: 0, 2, 3 and 4 (C4). */
 TRR_MUST_USE
 trr_carrier_set_up_answer trr_carrier_set_up(uint32_t constellation, trr_carrier_values v);
 
-/** Answers the state as it was just after its set-up. */
+/** Answers the state as it was just after its set-up (C7). */
 TRR_MUST_USE
 trr_carrier trr_carrier_reset(trr_carrier x);
 
-/** Answers the state with this phase: "32 bits are one turn". The rest stays. */
+/** Answers the state with this phase, in units of 2^-32 turn. The rest stays (C8). */
 TRR_MUST_USE
 trr_carrier trr_carrier_set_phase(trr_carrier x, uint32_t phase);
 
-/** Answers the state with this frequency, in cycles per symbol. The rest stays. "a frequency set is
- *  narrowed, flushed, limited, NaN becoming 0". */
+/** Answers the state with this frequency, in cycles per symbol. The rest stays. The frequency is rounded to
+ *  an f32; 0 is taken if it is NaN or below 1e-30 in size, and the nearer end if it lies beyond the limit
+ *  (C9). */
 TRR_MUST_USE
 trr_carrier trr_carrier_set_frequency(trr_carrier x, double freq);
 
-/** Answers what the state tells about itself. */
+/** Answers constellation, values of the set-up, frequency, phase, lock level and lock (C21). */
 TRR_MUST_USE
 trr_carrier_readings_answer trr_carrier_readings(trr_carrier x);
 
 /**
- * Runs the loop over the input, complex samples, one for each symbol, and writes one output sample for
- * each of them. The record is brought up to date. Numbers: 0, 8 where a count is odd, 7 where the counts
- * differ. A refused run leaves the record and the output as found.
+ * Runs the loop over the input, complex samples, one for each symbol (strobes), removes the carrier and
+ * writes one output sample for each of them. The new state is left in the record. Numbers: 0, 8 where a
+ * count is odd, 7 where the counts differ (C1). A refused run leaves the record and the output as found
+ * (A7). It makes no difference how a recording is cut into calls (B2).
  */
 TRR_MUST_USE
 uint32_t trr_carrier_run(trr_carrier *x,
@@ -457,12 +485,12 @@ uint32_t trr_carrier_run(trr_carrier *x,
 
 /* ---- Receiver: types */
 
-/** The receiver record: both loops and the symbol count. */
+/** The receiver record: both loops and the symbol count (R2). */
 typedef struct trr_receiver {
     trr_complex_timing timing;
     trr_carrier carrier;
-    /** Symbols produced since the set-up or the last reset. "It counts symbols in 32 bits and stops at
-     *  the top." */
+    /** Symbols produced since the set-up or the last reset. From 4,294,967,295 on the count stays there
+     *  (R6). */
     uint32_t count;
 } trr_receiver;
 
@@ -471,53 +499,55 @@ typedef struct trr_receiver_set_up_answer {
     /** One of enum trr_number. */
     uint32_t number;
     /** The receiver where the number is 0. Otherwise it is no receiver: all its fields are 0, and it
-     *  must not be used. */
+     *  must not be used (L3). */
     trr_receiver receiver;
 } trr_receiver_set_up_answer;
 
-/** The answer of trr_receiver_readings. */
+/** The answer of trr_receiver_readings (R9). */
 typedef struct trr_receiver_readings_answer {
     trr_timing_readings_answer timing;
     trr_carrier_readings_answer carrier;
-    /** Symbols produced since the set-up or the last reset, at most 4,294,967,295. */
+    /** Symbols produced since the set-up or the last reset, at most 4,294,967,295 (R6). */
     uint32_t count;
 } trr_receiver_readings_answer;
 
 /* ---- Receiver */
 
-/** Sets up a receiver. Numbers: 0, and 1 to 6. "Timing is set up first, all its checks before any of the
- *  carrier's." */
+/** Sets up a receiver. Numbers: 0, and 1 to 6. Timing's values are checked first (1 to 6), then the carrier's
+ *  (2 to 4), so that any wrong value of timing's is answered before one of the carrier's (R4). */
 TRR_MUST_USE
 trr_receiver_set_up_answer trr_receiver_set_up(uint32_t constellation,
                                                trr_timing_values t, trr_carrier_values c);
 
-/** The same without a constellation. "Set up without a constellation it takes BPSK". */
+/** The same without a constellation: it is BPSK then (R3). */
 TRR_MUST_USE
 trr_receiver_set_up_answer trr_receiver_set_up_unnamed(trr_timing_values t, trr_carrier_values c);
 
-/** Answers the receiver as it was just after its set-up. "A reset resets both loops and clears the
- *  count." */
+/** Answers the receiver as it was just after its set-up: both loops are fresh, and the symbol count is 0
+ *  (R7). */
 TRR_MUST_USE
 trr_receiver trr_receiver_reset(trr_receiver x);
 
-/** Answers the receiver with this phase of the carrier: "32 bits are one turn". The rest stays. */
+/** Answers the receiver with this phase of the carrier, in units of 2^-32 turn. The rest stays (R8). */
 TRR_MUST_USE
 trr_receiver trr_receiver_set_phase(trr_receiver x, uint32_t phase);
 
-/** Answers what the receiver tells about itself. */
+/** Answers the readings of both loops and the symbol count (R9). */
 TRR_MUST_USE
 trr_receiver_readings_answer trr_receiver_readings(trr_receiver x);
 
 /**
- * Receives complex samples: "Timing into a strobe buffer, then the carrier over the strobes produced,
- * into the output." The record is brought up to date, the symbol count with it. "A run answers with
- * timing's two counts." Numbers: 0, 8 where one of the three counts is odd, 7 where the strobe buffer and
- * the output differ in length. A refused call leaves the record, the strobe buffer and the output as
- * found.
+ * Receives complex samples. The timing loop makes strobes of the input and writes them to the strobe buffer.
+ * Then the carrier loop makes symbols of these strobes and writes them to the output (R1). The new receiver
+ * is left in the record, its symbol count included (R2, R6). The counts are those of timing: samples
+ * consumed, symbols produced (R5). Numbers: 0, 8 where one of the three counts is odd, 7 where the strobe
+ * buffer and the output are not equally long (R10). A refused call leaves the record, the strobe buffer and
+ * the output as found (A7).
  *
- * The call ends where the output is full or where the next strobe needs more input. In the latter case
- * all input is consumed. Places behind the last sample produced stay as found, in both buffers. What was
- * not consumed is to be handed again, in front of the next samples.
+ * The call ends where the output's capacity (places) is used up or where the next strobe needs more input
+ * (T9, T12). In the latter case all input is consumed. Places behind the last sample produced stay as
+ * found, in both buffers (A10). Hand again what was not consumed, in front of the next samples: then it
+ * makes no difference how a recording is cut into calls (B3).
  */
 TRR_MUST_USE
 trr_counts trr_receiver_receive(trr_receiver *x,
@@ -526,14 +556,16 @@ trr_counts trr_receiver_receive(trr_receiver *x,
                                 float *output, size_t output_count);
 
 /**
- * The symbol number of an output sample. "BPSK 1 if re is negative, or zero with im negative, else 0.
- * 8-PSK: the octant 0 to 7 of `octant`; QPSK: half of that octant, rounded down. Silence reads as 0."
- * Octant k goes from k eighths of a turn up to but not k + 1 eighths, so the QPSK number is the quadrant.
+ * The symbol number of an output sample (R11 to R14). Under BPSK it is 1 if re is below zero, or if re is
+ * zero and im is below zero; else it is 0. Under 8-PSK it is the octant, 0 to 7: octant k goes from k eighths
+ * of a turn up to but not including k + 1 eighths (C14). Under QPSK it is half the octant, rounded down: the
+ * quadrant, 0 to 3. Silence (both parts zero) has the number 0, and under QPSK and 8-PSK so has a sample with
+ * a NaN part.
  */
 TRR_MUST_USE
 size_t trr_symbol_number(uint32_t constellation, float re, float im);
 
-/* ---- Layout, as the library has it on x86-64 */
+/* ---- Layout, as the library has it on x86-64 (L6) */
 
 #if defined(__cplusplus) && __cplusplus >= 201103L
 #define TRR_CHECK(name, condition) static_assert(condition, #name)

@@ -46,7 +46,7 @@ pub fn recorded() -> String {
 }
 
 /// The set-ups and the setters; then odd samples, chains of calls and the lock detector under each
-/// constellation; document 01's cases, and the flushes.
+/// constellation; the cases X18 and X19 of docs/SPECIFICATION.md, and the flushes.
 fn recorded_by<K: Costas>(kernel: K) -> String {
     let mut random = Random::new(SEED);
     let script = Script::default();
@@ -147,7 +147,7 @@ impl<K: Costas> Recorder<K> {
         self.run(s, input, input.len());
     }
 
-    /// A run that document 01 refuses with number 8: one f32 of the input, of the output or of both
+    /// A run that is refused with number 8 (E8): one f32 of the input, of the output or of both
     /// is left over. The original lends whole samples and has no such call.
     fn odd_run(&mut self, s: &CostasState, floats: &[f32], places: usize) {
         self.script.input(floats);

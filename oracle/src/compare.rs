@@ -1,5 +1,5 @@
-//! Compares the original's two implementations with each other on random sessions, and checks
-//! on the way what document 01 says of every state and answer.
+//! Compares the original's two implementations with each other on random sessions, and checks on the way
+//! what must hold of every state and answer (A10, A11, T22, T23, C22 of docs/SPECIFICATION.md).
 
 pub mod carrier;
 pub mod tally;
@@ -17,7 +17,7 @@ use tally::Tally;
 pub const SEED: u64 = 1;
 /// The symbols of timing, and as many again of the carrier, if no count is given.
 pub const SYMBOLS: u64 = 2_000_000;
-/// Between calls the position is at most this.
+/// No position between calls may be above this. The exact bound is one less (T23).
 const HIGHEST_POSITION: usize = 1_312_502;
 
 /// What came out.

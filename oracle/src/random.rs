@@ -30,7 +30,7 @@ impl Random {
         (self.bits() % (top as u64 + 1)) as usize
     }
 
-    /// From 0 up to but not 1.
+    /// From 0 up to but not including 1.
     pub fn unit(&mut self) -> f64 {
         (self.bits() >> 11) as f64 / (1u64 << 53) as f64
     }

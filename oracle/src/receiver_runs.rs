@@ -36,7 +36,8 @@ pub fn recorded() -> String {
     agreed(recorded_by(Fallback), &recorded_by(Reference))
 }
 
-/// The set-ups, document 01's cases and the symbol numbers; then chains of calls, and turned lists.
+/// The set-ups, the cases X13 to X21 of docs/SPECIFICATION.md and the symbol numbers; then chains of calls,
+/// and turned lists.
 fn recorded_by<K: Kernel>(kernel: K) -> String {
     let mut random = Random::new(SEED);
     let script = Script::default();
@@ -76,7 +77,7 @@ struct Turns {
 }
 
 impl Turns {
-    /// All that document 01 allows: under BPSK the difference is even.
+    /// All that Q3 allows: under BPSK both are even or both are odd.
     fn allowed(points: CostasConstellation) -> Vec<Self> {
         let all = (0..4).flat_map(|samples| (0..4).map(move |phase| Self { samples, phase }));
         let even = |turns: &Self| (turns.samples + turns.phase).is_multiple_of(2);

@@ -1,5 +1,5 @@
-//! The original's errors as the numbers of document 01. Number 8 is not here: it concerns
-//! buffers of single parts, and the original lends whole complex samples.
+//! The original's errors as the numbers of refusals (E1 to E7 of docs/SPECIFICATION.md). Number 8 is not
+//! here: it concerns buffers of single parts, and the original lends whole complex samples.
 
 use crate::error::Error;
 
@@ -15,7 +15,7 @@ const PHRASES: [(&str, u8); 7] = [
     ("detector gain", 5),
 ];
 
-/// The number, or none for an error that document 01 says never occurs.
+/// The number, or none for an error that cannot occur (A11).
 pub fn number(error: &Error) -> Option<u8> {
     match error {
         Error::LengthMismatch { .. } => Some(7),

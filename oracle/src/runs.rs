@@ -27,7 +27,7 @@ pub fn recorded() -> String {
     agreed(recorded_by(Fallback), &recorded_by(Reference))
 }
 
-/// The set-ups, then document 01's cases, short chains of calls, and random ones.
+/// The set-ups, then the cases X13 to X17 of docs/SPECIFICATION.md, short chains of calls, and random ones.
 fn recorded_by<K: Kernel>(kernel: K) -> String {
     let mut random = Random::new(SEED);
     let script = Script::default();
@@ -114,8 +114,8 @@ impl<K> Recorder<K> {
         consumed
     }
 
-    /// A complex run that document 01 refuses with number 8: one f32 of the input, or of the
-    /// output, is left over. The original lends whole samples and has no such call.
+    /// A complex run that is refused with number 8 (E8): one f32 of the input, or of the output, is left
+    /// over. The original lends whole samples and has no such call.
     fn odd_run<T: Parts>(&mut self, s: &SymbolSyncState<T>, floats: &[f32], places: usize) {
         self.script.input(floats);
         self.script.line('r', halves(floats.len(), places), 0, 8);

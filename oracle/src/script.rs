@@ -20,7 +20,8 @@ pub fn flat<T: Parts>(samples: &[T]) -> Vec<f32> {
     samples.iter().flat_map(|sample| sample.parts()).collect()
 }
 
-/// Document 01's number for what a call of the original gave; 0 if it was not refused.
+/// The number of what a call of the original gave: 0 if it was done, else that of the refusal (E1 to E7 of
+/// docs/SPECIFICATION.md).
 pub fn number<A>(given: &Result<A, Error>) -> u64 {
     match given {
         Ok(_) => 0,

@@ -1,4 +1,4 @@
-//! The carrier loop by itself.
+//! The carrier loop by itself. Labels are those of docs/SPECIFICATION.md.
 
 use crate::constellation::Constellation;
 use crate::ffi;
@@ -12,7 +12,7 @@ pub struct Carrier {
 }
 
 impl Carrier {
-    /// Sets up a loop. Refused with the lowest number of 2, 3 and 4 that applies.
+    /// Sets up a loop. Refused with the lowest number of 2, 3 and 4 that applies (C4).
     pub fn set_up(constellation: Constellation, values: CarrierValues) -> Result<Self, Refusal> {
         // SAFETY: a set-up takes any values.
         let answer = unsafe { ffi::trr_carrier_set_up(constellation.code(), values.raw()) };
@@ -22,28 +22,29 @@ impl Carrier {
         })
     }
 
-    /// Makes the loop as it was just after its set-up.
+    /// Makes the loop as it was just after its set-up (C7).
     pub fn reset(&mut self) {
         // SAFETY: the library has given the record, and nobody else writes it.
         self.record = unsafe { ffi::trr_carrier_reset(self.record) };
     }
 
-    /// Sets the phase: "32 bits are one turn". The rest stays.
+    /// Sets the phase, in units of 2^-32 turn. The rest stays (C8).
     pub fn set_phase(&mut self, phase: u32) {
         // SAFETY: the library has given the record, and nobody else writes it.
         self.record = unsafe { ffi::trr_carrier_set_phase(self.record, phase) };
     }
 
-    /// Sets the frequency, in cycles per symbol. The rest stays. "a frequency set is narrowed, flushed,
-    /// limited, NaN becoming 0".
+    /// Sets the frequency, in cycles per symbol. The rest stays. The frequency is rounded to an f32; 0 is
+    /// taken if it is NaN or below 1e-30 in size, and the nearer end if it lies beyond the limit (C9).
     pub fn set_frequency(&mut self, frequency: f64) {
         // SAFETY: the library has given the record, and nobody else writes it.
         self.record = unsafe { ffi::trr_carrier_set_frequency(self.record, frequency) };
     }
 
-    /// Runs the loop over the input, complex samples, one for each symbol, and writes one output sample
-    /// for each of them. Refused with [`Refusal::Odd`] where a length is odd, then with
-    /// [`Refusal::Uneven`] where the lengths differ; then the loop and the output stay as found.
+    /// Runs the loop over the input, complex samples, one for each symbol (strobes), removes the carrier
+    /// and writes one output sample for each of them. Refused with [`Refusal::Odd`] where a length is odd,
+    /// then with [`Refusal::Uneven`] where the lengths differ (C1); then the loop and the output stay as
+    /// found (A7). It makes no difference how a recording is cut into calls (B2).
     pub fn run(&mut self, input: &[f32], output: &mut [f32]) -> Result<(), Refusal> {
         // SAFETY: the library has given the record, and nobody else writes it. The pointers and counts
         // are those of slices, which are never null; the borrows are exclusive where the library
@@ -60,25 +61,26 @@ impl Carrier {
         Refusal::check(number)
     }
 
-    /// Frequency, in cycles per symbol: the estimate of the carrier's offset.
+    /// Frequency, in cycles per symbol: the estimate of the carrier's offset (C21).
     #[must_use]
     pub fn frequency(&self) -> f64 {
         self.readings().frequency
     }
 
-    /// Phase before the next symbol: "32 bits are one turn".
+    /// Phase before the next symbol, in units of 2^-32 turn (C21).
     #[must_use]
     pub fn phase(&self) -> u32 {
         self.readings().phase
     }
 
-    /// The smoothed lock measure.
+    /// The smoothed lock measure (C20).
     #[must_use]
     pub fn lock_level(&self) -> f32 {
         self.readings().lock_level
     }
 
-    /// Whether there is lock: a level "above 0.5 sets lock, below 0.3 clears it".
+    /// Whether there is lock. A level above 0.5 sets lock, one below 0.3 clears it, and between the two it
+    /// stays as it was (C20).
     #[must_use]
     pub fn locked(&self) -> bool {
         self.readings().locked

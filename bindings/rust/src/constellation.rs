@@ -1,4 +1,4 @@
-//! The constellations and the symbol numbers.
+//! The constellations and the symbol numbers. Labels are those of docs/SPECIFICATION.md.
 
 use crate::ffi;
 
@@ -15,7 +15,7 @@ pub enum Constellation {
 }
 
 impl Constellation {
-    /// The library's code.
+    /// The library's code (L4).
     #[must_use]
     pub fn code(self) -> u32 {
         self as u32
@@ -32,8 +32,12 @@ impl Constellation {
     }
 }
 
-/// The symbol number of an output sample. "BPSK 1 if re is negative, or zero with im negative, else 0.
-/// 8-PSK: the octant 0 to 7 of `octant`; QPSK: half of that octant, rounded down. Silence reads as 0."
+/// The symbol number of an output sample (R11 to R14).
+///
+/// Under BPSK it is 1 if `re` is below zero, or if `re` is zero and `im` is below zero; else it is 0. Under
+/// 8-PSK it is the octant, 0 to 7: octant k goes from k eighths of a turn up to but not including k + 1
+/// eighths (C14). Under QPSK it is half the octant, rounded down: the quadrant, 0 to 3. Silence (both parts
+/// zero) has the number 0, and under QPSK and 8-PSK so has a sample with a NaN part.
 #[must_use]
 pub fn symbol_number(constellation: Constellation, re: f32, im: f32) -> usize {
     // SAFETY: the function takes any code and any f32, all by value.

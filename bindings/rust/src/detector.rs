@@ -1,17 +1,24 @@
-//! The timing error detectors.
+//! The timing error detectors. Labels are those of docs/SPECIFICATION.md.
 
 /// The timing error detector.
+///
+/// Gardner's needs no carrier lock. Mueller-Müller's decides on strobes from which the carrier is not
+/// removed yet, so that under QPSK and 8-PSK a carrier offset can make it slip symbols or fail; at a loop
+/// bandwidth of 0.01 an offset of 0.0005 cycles per symbol is enough for that. Prefer Gardner's unless
+/// the carrier is removed first. docs/THEORY.md has the measured table.
 #[derive(Clone, Copy, Debug, PartialEq, Eq, Hash)]
 #[repr(u32)]
 pub enum Detector {
-    /// "(previous - strobe) × middle, real product plus imaginary".
+    /// The last strobe less this one, times the midpoint sample (middle) between the two. For complex
+    /// samples, the product of the real parts and that of the imaginary parts are added (T14).
     Gardner = 0,
-    /// "previous decision times strobe, minus decision times previous strobe".
+    /// The last strobe's decision times this strobe, less this strobe's decision times the last strobe,
+    /// added likewise. A decision is the sign of each part: 1, -1, or 0 for a zero or NaN (T15).
     MuellerMuller = 1,
 }
 
 impl Detector {
-    /// The library's code.
+    /// The library's code (L4).
     #[must_use]
     pub fn code(self) -> u32 {
         self as u32

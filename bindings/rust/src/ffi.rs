@@ -1,18 +1,19 @@
 //! The static library as it is: its records with their layout, and its functions.
 //!
 //! `crates/train_receiver/src` has the contract of each function. A slice of f32 goes as a pointer and
-//! a count.
+//! a count. Labels are those of docs/SPECIFICATION.md.
 //!
 //! What every caller must hold to:
 //!
-//! - A record is one that a set-up, reset, setter or run of the library has given. Nobody else writes
-//!   it. A refused set-up has given none: the zeros in its place must not be used.
+//! - A record must come from a set-up, a reset, a setter or a run of the library (A9). Nobody else writes
+//!   it. A refused set-up gives none: the zeros in its place must not be used (L3).
 //! - No pointer is null, even where the count is 0. The record and the buffers of one call do not
 //!   overlap.
-//! - Counts of buffers are counts of f32, two a complex sample. `consumed` and `produced` count samples.
+//! - Counts of buffers are counts of f32, two for a complex sample. `consumed` and `produced` count samples
+//!   (A1).
 //!
-//! A code other than the named ones reads as the last one. Padding bytes are no part of a record: compare
-//! records field by field.
+//! A code other than the named ones reads as the last one (L4). Padding bytes are no part of a record:
+//! compare records field by field.
 //!
 //! A reset or a setter answers the new record, and the one that is handed in stays as it was. So an answer
 //! must be used:
@@ -36,7 +37,7 @@
 //! }
 //! ```
 
-/// A complex sample, real part first.
+/// A complex sample: the real part, then the imaginary one (A1).
 #[derive(Clone, Copy, Debug)]
 #[repr(C)]
 pub struct C32 {
@@ -57,11 +58,11 @@ pub struct Progress {
     pub produced: usize,
 }
 
-/// What a call answers: document 01's number, 0 where it is done, and the counts.
+/// What a call answers: 0 if it is done, else the number of its refusal (A2); and the counts, in samples.
 #[derive(Clone, Copy, Debug, PartialEq, Eq)]
 #[repr(C)]
 pub struct Counts {
-    /// Document 01's number, 0 where the call is done.
+    /// 0 if the call is done, else the number of its refusal, 1 to 8 (E1 to E8).
     pub number: u32,
     /// Input samples consumed; 0 where the call is refused.
     pub consumed: usize,
@@ -69,69 +70,69 @@ pub struct Counts {
     pub produced: usize,
 }
 
-/// What a timing loop is set up with.
+/// What a timing loop is set up with (T2).
 #[derive(Clone, Copy, Debug)]
 #[repr(C)]
 pub struct TimingValues {
-    /// Samples per symbol.
+    /// Samples per symbol (pace).
     pub sps: f64,
     /// 0 Gardner, 1 Mueller-Müller.
     pub ted: u32,
-    /// Loop bandwidth, as a fraction of the symbol rate.
+    /// Loop bandwidth (width), as a fraction of the symbol rate.
     pub loop_bw: f64,
     /// Damping.
     pub damping: f64,
-    /// Largest deviation of the pace from sps, as a fraction of sps.
+    /// Maximum deviation (pull) of the tracked samples per symbol from `sps`, as a fraction of `sps`.
     pub max_deviation: f64,
-    /// Detector gain.
+    /// Detector gain (slope), in detector output per symbol.
     pub ted_gain: f64,
 }
 
-/// What a carrier loop is set up with, but for its constellation.
+/// What a carrier loop is set up with, but for its constellation (C2).
 #[derive(Clone, Copy, Debug)]
 #[repr(C)]
 pub struct CarrierValues {
-    /// Loop bandwidth, as a fraction of the symbol rate.
+    /// Loop bandwidth (width), as a fraction of the symbol rate.
     pub loop_bw: f64,
     /// Damping.
     pub damping: f64,
-    /// Largest frequency offset, in cycles per symbol.
+    /// Maximum frequency offset (pull), in cycles per symbol.
     pub max_offset: f64,
 }
 
-/// The parameters of a timing state.
+/// The parameters of a timing state: the values of the set-up, and what follows from them (T3).
 #[derive(Clone, Copy, Debug)]
 #[repr(C)]
 pub struct TimingParams {
-    /// Samples per symbol.
+    /// Samples per symbol (pace).
     pub sps: f64,
     /// 0 Gardner, 1 Mueller-Müller.
     pub ted: u32,
-    /// Loop bandwidth, as a fraction of the symbol rate.
+    /// Loop bandwidth (width), as a fraction of the symbol rate.
     pub loop_bw: f64,
     /// Damping.
     pub damping: f64,
-    /// Largest deviation of the pace from sps, as a fraction of sps.
+    /// Maximum deviation (pull) of the tracked samples per symbol from `sps`, as a fraction of `sps`.
     pub max_deviation: f64,
-    /// Detector gain.
+    /// Detector gain (slope), in detector output per symbol.
     pub ted_gain: f64,
-    /// Proportional gain, in samples per unit of the detector.
+    /// Proportional gain, in samples per unit of the detector's output.
     pub kp: f64,
-    /// Integral gain, in samples per unit of the detector.
+    /// Integral gain, in samples per unit of the detector's output.
     pub ki: f64,
     /// Limit of the integrator, in samples.
     pub lim: f64,
 }
 
-/// The clock of a timing state.
+/// The clock of a timing state (T5, T22).
 #[derive(Clone, Copy, Debug)]
 #[repr(C)]
 pub struct Clock {
     /// Position of the next strobe, in samples from the first one of the history: the whole part.
     pub i: usize,
-    /// The fraction of that position.
+    /// The fraction of that position, from 0 up to but not including 1.
     pub mu: f64,
-    /// Spacing of the strobes, in samples.
+    /// Spacing of the strobes, in samples: the tracked samples per symbol (pace).
     pub omega: f64,
     /// Integrator of the loop filter, in samples.
     pub integ: f64,
@@ -159,19 +160,19 @@ pub struct TimingTrack<T> {
     pub y_prev: T,
     /// The previous decision.
     pub d_prev: T,
-    /// The middle sample, where `mid_ready`.
+    /// The midpoint sample (middle) between the last strobe and the next, where `mid_ready`.
     pub mid: T,
-    /// Whether a middle sample is held.
+    /// Whether a midpoint sample is held.
     pub mid_ready: bool,
-    /// Whether there was a strobe.
+    /// Whether there was a strobe since the set-up or the last reset.
     pub started: bool,
 }
 
-/// A timing state.
+/// A timing state (T5).
 #[derive(Clone, Copy, Debug)]
 #[repr(C)]
 pub struct Timing<T> {
-    /// What the set-up settled.
+    /// The values of the set-up, and what follows from them.
     pub params: TimingParams,
     /// The history.
     pub hist: Hist<T>,
@@ -179,11 +180,11 @@ pub struct Timing<T> {
     pub track: TimingTrack<T>,
 }
 
-/// The answer of a timing set-up. Where the number is not 0 there is no state, only zeros.
+/// The answer of a timing set-up. Where the number is not 0 there is no state, only zeros (L3).
 #[derive(Clone, Copy, Debug)]
 #[repr(C)]
 pub struct TimingSetUp<T> {
-    /// Document 01's number, 0 where the set-up is done.
+    /// 0 if the set-up is done, else the number of its refusal, 1 to 6 (E1 to E6).
     pub number: u32,
     /// The state.
     pub state: Timing<T>,
@@ -195,31 +196,31 @@ pub struct TimingSetUp<T> {
 pub struct TimingReadings {
     /// The values of the set-up.
     pub values: TimingValues,
-    /// Position of the next strobe in samples, from the first one of the next call's input.
+    /// Position of the next strobe in samples, from the first one of the next call's input (T21).
     pub next_strobe: f64,
-    /// The pace: the estimate of the samples per symbol.
+    /// The tracked samples per symbol (pace): the estimate of how many samples a symbol has (T21).
     pub sps_estimate: f64,
 }
 
-/// The parameters of a carrier state.
+/// The parameters of a carrier state: the values of the set-up, and what follows from them (C3, C5).
 #[derive(Clone, Copy, Debug)]
 #[repr(C)]
 pub struct CarrierParams {
-    /// Loop bandwidth, as a fraction of the symbol rate.
+    /// Loop bandwidth (width), as a fraction of the symbol rate.
     pub loop_bw: f64,
     /// Damping.
     pub damping: f64,
-    /// Largest frequency offset, in cycles per symbol, as it was given.
+    /// Maximum frequency offset (pull), in cycles per symbol, as it was given.
     pub max_offset: f64,
-    /// Proportional gain, in cycles per symbol per unit of the detector.
+    /// Proportional gain, in cycles per symbol per unit of the detector's output.
     pub kp: f32,
-    /// Integral gain, in cycles per symbol per unit of the detector.
+    /// Integral gain, in cycles per symbol per unit of the detector's output.
     pub ki: f32,
     /// Limit of the frequency, in cycles per symbol.
     pub max: f32,
 }
 
-/// The oscillator.
+/// The oscillator (C6).
 #[derive(Clone, Copy, Debug)]
 #[repr(C)]
 pub struct Nco {
@@ -229,7 +230,7 @@ pub struct Nco {
     pub freq: f32,
 }
 
-/// The lock detector.
+/// The lock detector (C20).
 #[derive(Clone, Copy, Debug)]
 #[repr(C)]
 pub struct Lock {
@@ -249,29 +250,29 @@ pub struct CarrierTrack {
     pub lock: Lock,
 }
 
-/// A carrier state.
+/// A carrier state (C6).
 #[derive(Clone, Copy, Debug)]
 #[repr(C)]
 pub struct Carrier {
     /// 0 BPSK, 1 QPSK, 2 8-PSK.
     pub constellation: u32,
-    /// What the set-up settled.
+    /// The values of the set-up, and what follows from them.
     pub params: CarrierParams,
     /// What a run changes.
     pub track: CarrierTrack,
 }
 
-/// The answer of a carrier set-up. Where the number is not 0 there is no state, only zeros.
+/// The answer of a carrier set-up. Where the number is not 0 there is no state, only zeros (L3).
 #[derive(Clone, Copy, Debug)]
 #[repr(C)]
 pub struct CarrierSetUp {
-    /// Document 01's number, 0 where the set-up is done.
+    /// 0 if the set-up is done, else the number of its refusal, 1 to 6 (E1 to E6).
     pub number: u32,
     /// The state.
     pub state: Carrier,
 }
 
-/// What a carrier state tells of itself.
+/// What a carrier state tells of itself (C21).
 #[derive(Clone, Copy, Debug)]
 #[repr(C)]
 pub struct CarrierReadings {
@@ -289,7 +290,7 @@ pub struct CarrierReadings {
     pub locked: bool,
 }
 
-/// The receiver record.
+/// The receiver record (R2).
 #[derive(Clone, Copy, Debug)]
 #[repr(C)]
 pub struct Receiver {
@@ -297,21 +298,21 @@ pub struct Receiver {
     pub timing: Timing<C32>,
     /// The carrier loop.
     pub carrier: Carrier,
-    /// Symbols produced since the set-up or the last reset. It stops at the top.
+    /// Symbols produced since the set-up or the last reset, at most 4,294,967,295 (R6).
     pub count: u32,
 }
 
-/// The answer of a receiver's set-up. Where the number is not 0 there is no receiver, only zeros.
+/// The answer of a receiver's set-up. Where the number is not 0 there is no receiver, only zeros (L3).
 #[derive(Clone, Copy, Debug)]
 #[repr(C)]
 pub struct ReceiverSetUp {
-    /// Document 01's number, 0 where the set-up is done.
+    /// 0 if the set-up is done, else the number of its refusal, 1 to 6 (E1 to E6).
     pub number: u32,
     /// The receiver.
     pub receiver: Receiver,
 }
 
-/// What a receiver tells of itself.
+/// What a receiver tells of itself (R9).
 #[derive(Clone, Copy, Debug)]
 #[repr(C)]
 pub struct ReceiverReadings {
@@ -319,7 +320,7 @@ pub struct ReceiverReadings {
     pub timing: TimingReadings,
     /// What the carrier loop tells.
     pub carrier: CarrierReadings,
-    /// Symbols produced since the set-up or the last reset. It stops at the top.
+    /// Symbols produced since the set-up or the last reset, at most 4,294,967,295 (R6).
     pub count: u32,
 }
 
@@ -377,7 +378,8 @@ unsafe extern "C" {
     /// The state with this phase, in units of 2^-32 turn.
     #[must_use = "the record that is handed in stays as it was"]
     pub fn trr_carrier_set_phase(x: Carrier, phase: u32) -> Carrier;
-    /// The state with this frequency, in cycles per symbol, narrowed, flushed and limited.
+    /// The state with this frequency, in cycles per symbol: rounded to an f32, 0 if it is NaN or below 1e-30
+    /// in size, the nearer end if it lies beyond the limit (C9).
     #[must_use = "the record that is handed in stays as it was"]
     pub fn trr_carrier_set_frequency(x: Carrier, freq: f64) -> Carrier;
     /// What the state tells of itself.
@@ -402,7 +404,7 @@ unsafe extern "C" {
         t: TimingValues,
         c: CarrierValues,
     ) -> ReceiverSetUp;
-    /// The same without a constellation, which takes BPSK.
+    /// The same without a constellation: it is BPSK then (R3).
     #[must_use]
     pub fn trr_receiver_set_up_unnamed(t: TimingValues, c: CarrierValues) -> ReceiverSetUp;
     /// The receiver as it was just after its set-up.
@@ -414,8 +416,8 @@ unsafe extern "C" {
     /// What the receiver tells of itself.
     #[must_use]
     pub fn trr_receiver_readings(x: Receiver) -> ReceiverReadings;
-    /// One call: timing into the strobe buffer, the carrier from there into the output. Numbers: 0, 7
-    /// and 8.
+    /// One call: the timing loop writes strobes to the strobe buffer, the carrier loop makes the output of
+    /// them (R1). Numbers: 0, 7 and 8 (R10).
     #[must_use = "the answer says whether the call is done and what it consumed"]
     pub fn trr_receiver_receive(
         x: *mut Receiver,
@@ -426,7 +428,7 @@ unsafe extern "C" {
         output: *mut f32,
         output_len: usize,
     ) -> Counts;
-    /// The symbol number of an output sample.
+    /// The symbol number of an output sample (R11 to R14).
     #[must_use]
     pub fn trr_symbol_number(constellation: u32, re: f32, im: f32) -> usize;
 }

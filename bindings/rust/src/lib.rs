@@ -1,14 +1,15 @@
 //! The train report receiver for Rust programs: symbol timing recovery and carrier recovery.
 //!
 //! [`Receiver`] does both. [`RealTiming`], [`ComplexTiming`] and [`Carrier`] are the loops by
-//! themselves. Document 01 settles what every function answers; sentences in quotation marks are taken
-//! from it. [`ffi`] is the static library as it is.
+//! themselves. [`ffi`] is the static library as it is. Labels such as (T8) are those of
+//! docs/SPECIFICATION.md, which states the whole behaviour.
 //!
-//! Buffers are slices of f32. "A complex sample is two f32, real part first", so a complex buffer of n
-//! samples has the length 2 n. The counts of [`Progress`] count samples.
+//! Buffers are slices of f32. A complex sample is a pair of f32, the real part before the imaginary one,
+//! so a complex buffer of n samples has the length 2 n. The counts of [`Progress`] count samples (A1). Any
+//! buffer may be empty (A8).
 //!
 //! A record is only made by a set-up, and only the library writes it. So the one thing that the
-//! library requires of a caller always holds.
+//! library asks of a caller (A9) always holds (L8).
 //!
 //! ```
 //! use train_receiver::{CarrierValues, Constellation, Detector, Receiver, Refusal, TimingValues};

@@ -1,4 +1,4 @@
-//! The receiver: both loops and a symbol count.
+//! The receiver: both loops and a symbol count. Labels are those of docs/SPECIFICATION.md.
 
 use crate::constellation::Constellation;
 use crate::ffi::{self, Progress};
@@ -13,8 +13,9 @@ pub struct Receiver {
 }
 
 impl Receiver {
-    /// Sets up a receiver. Refused with a number of 1 to 6. "Timing is set up first, all its checks
-    /// before any of the carrier's."
+    /// Sets up a receiver. Refused with a number of 1 to 6. Timing's values are checked first (1 to 6),
+    /// then the carrier's (2 to 4), so that any wrong value of timing's is answered before one of the
+    /// carrier's (R4).
     pub fn set_up(
         constellation: Constellation,
         timing: TimingValues,
@@ -26,7 +27,7 @@ impl Receiver {
         Receiver::ready(answer)
     }
 
-    /// The same without a constellation. "Set up without a constellation it takes BPSK".
+    /// The same without a constellation: it is BPSK then (R3).
     pub fn set_up_unnamed(timing: TimingValues, carrier: CarrierValues) -> Result<Self, Refusal> {
         // SAFETY: a set-up takes any values.
         let answer = unsafe { ffi::trr_receiver_set_up_unnamed(timing.raw(), carrier.raw()) };
@@ -40,27 +41,29 @@ impl Receiver {
         })
     }
 
-    /// Makes the receiver as it was just after its set-up. "A reset resets both loops and clears the
-    /// count."
+    /// Makes the receiver as it was just after its set-up: both loops are fresh, and the symbol count is 0
+    /// (R7).
     pub fn reset(&mut self) {
         // SAFETY: the library has given the record, and nobody else writes it.
         self.record = unsafe { ffi::trr_receiver_reset(self.record) };
     }
 
-    /// Sets the carrier's phase: "32 bits are one turn". The rest stays.
+    /// Sets the carrier's phase, in units of 2^-32 turn. The rest stays (R8).
     pub fn set_phase(&mut self, phase: u32) {
         // SAFETY: the library has given the record, and nobody else writes it.
         self.record = unsafe { ffi::trr_receiver_set_phase(self.record, phase) };
     }
 
-    /// Receives complex samples: "Timing into a strobe buffer, then the carrier over the strobes
-    /// produced, into the output." "A run answers with timing's two counts." Refused with
-    /// [`Refusal::Odd`] where a length is odd, then with [`Refusal::Uneven`] where the strobe buffer and
-    /// the output differ in length; then the receiver and both buffers stay as found.
+    /// Receives complex samples. The timing loop makes strobes of the input and writes them to the strobe
+    /// buffer. Then the carrier loop makes symbols of these strobes and writes them to the output (R1). The
+    /// counts are those of timing: samples consumed, symbols produced (R5). Refused with [`Refusal::Odd`]
+    /// where a length is odd, then with [`Refusal::Uneven`] where the strobe buffer and the output are not
+    /// equally long (R10); then the receiver and both buffers stay as found (A7).
     ///
-    /// The call ends where the output is full or where the next strobe needs more input. In the latter
-    /// case all input is consumed. Places behind the last sample produced stay as found, in both
-    /// buffers. What was not consumed is to be handed again, in front of the next samples.
+    /// The call ends where the output's capacity (places) is used up or where the next strobe needs more
+    /// input (T9, T12). In the latter case all input is consumed. Places behind the last sample produced
+    /// stay as found, in both buffers (A10). Hand again what was not consumed, in front of the next
+    /// samples: then it makes no difference how a recording is cut into calls (B3).
     pub fn receive(
         &mut self,
         input: &[f32],
@@ -91,41 +94,41 @@ impl Receiver {
     }
 }
 
-/// Readings.
+/// Readings (R9).
 impl Receiver {
     /// Position of the next strobe in samples, counted from the first sample of the next call's input.
-    /// It is negative while the strobe lies before that sample. "The next strobe is reported as
-    /// (i - 3) + mu".
+    /// It is negative while the strobe lies before that sample (T21).
     #[must_use]
     pub fn next_strobe(&self) -> f64 {
         self.readings().timing.next_strobe
     }
 
-    /// The pace: the estimate of the samples per symbol.
+    /// The tracked samples per symbol (pace): the estimate of how many samples a symbol has (T21).
     #[must_use]
     pub fn sps_estimate(&self) -> f64 {
         self.readings().timing.sps_estimate
     }
 
-    /// The carrier's frequency, in cycles per symbol: the estimate of its offset.
+    /// The carrier's frequency, in cycles per symbol: the estimate of its offset (C21).
     #[must_use]
     pub fn frequency(&self) -> f64 {
         self.readings().carrier.frequency
     }
 
-    /// The carrier's phase before the next symbol: "32 bits are one turn".
+    /// The carrier's phase before the next symbol, in units of 2^-32 turn (C21).
     #[must_use]
     pub fn phase(&self) -> u32 {
         self.readings().carrier.phase
     }
 
-    /// The smoothed lock measure.
+    /// The smoothed lock measure (C20).
     #[must_use]
     pub fn lock_level(&self) -> f32 {
         self.readings().carrier.lock_level
     }
 
-    /// Whether there is lock: a level "above 0.5 sets lock, below 0.3 clears it".
+    /// Whether there is lock. A level above 0.5 sets lock, one below 0.3 clears it, and between the two it
+    /// stays as it was (C20).
     #[must_use]
     pub fn locked(&self) -> bool {
         self.readings().carrier.locked
@@ -137,8 +140,8 @@ impl Receiver {
         Constellation::from_code(self.readings().carrier.constellation)
     }
 
-    /// Symbols produced since the set-up or the last reset. "It counts symbols in 32 bits and stops at
-    /// the top."
+    /// Symbols produced since the set-up or the last reset. From 4,294,967,295 on the count stays there
+    /// (R6).
     #[must_use]
     pub fn count(&self) -> u32 {
         self.readings().count

@@ -1,29 +1,33 @@
-//! Why a call is refused.
+//! Why a call is refused. Labels are those of docs/SPECIFICATION.md.
 
 use crate::ffi::{Counts, Progress};
 use std::error::Error;
 use std::fmt;
 
-/// Why a call is refused: a line of document 01's table.
+/// Why a call is refused. A refusal is given where its condition holds and no other refusal comes before
+/// it, and nowhere else (A2). Ranges include their ends, and minus zero is 0 (A3).
 #[derive(Clone, Copy, Debug, PartialEq, Eq, Hash)]
 #[repr(u32)]
 pub enum Refusal {
-    /// "sps is not finite or not in 2 to 1,000,000".
+    /// The samples per symbol (pace) are not a finite number from 2 to 1,000,000 (E1).
     Pace = 1,
-    /// "loop bandwidth is not finite or not in 0.0001 to 0.1 (timing), 0.0001 to 0.2 (carrier)".
+    /// The loop bandwidth (width), a fraction of the symbol rate, is not a finite number from 0.0001 to 0.1
+    /// (timing) or from 0.0001 to 0.2 (carrier) (E2).
     Width = 2,
-    /// The damping is "not finite or not in 0.1 to 4".
+    /// The damping is not a finite number from 0.1 to 4 (E3).
     Damping = 3,
-    /// "maximum deviation (timing) not finite or not in 0 to 0.05; maximum offset (carrier, cycles per
-    /// symbol) not finite or not in 0 to 0.25".
+    /// Timing: the maximum deviation (pull), a fraction of the samples per symbol, is not a finite number
+    /// from 0 to 0.05. Carrier: the maximum frequency offset (pull) is not a finite number from 0 to 0.25
+    /// cycles per symbol (E4).
     Pull = 4,
-    /// "detector gain not finite or not above 0".
+    /// The detector gain (slope) is not a finite number above 0 (E5).
     Slope = 5,
-    /// "a timing gain comes out not finite".
+    /// A gain of the timing loop, kp or ki, that follows from the values (T3) is not finite (E6).
     Gains = 6,
-    /// "the carrier's input and output, or the receiver's strobe buffer and output, differ in length".
+    /// Two buffers are not equally long: the carrier's input and output, or the receiver's strobe buffer
+    /// and output (E7).
     Uneven = 7,
-    /// "a complex buffer has an odd count of f32".
+    /// The count of f32 of a complex buffer is odd (E8).
     Odd = 8,
 }
 
@@ -40,13 +44,13 @@ impl Refusal {
         Refusal::Odd,
     ];
 
-    /// Document 01's number.
+    /// The number, 1 to 8, which the C header and the labels E1 to E8 have too.
     #[must_use]
     pub fn number(self) -> u32 {
         self as u32
     }
 
-    /// Document 01's word.
+    /// The refusal's word.
     #[must_use]
     pub fn word(self) -> &'static str {
         match self {
@@ -61,8 +65,7 @@ impl Refusal {
         }
     }
 
-    /// What is wrong: the refusal is given exactly if this holds. The C header's `trr_number_text` has the
-    /// same words.
+    /// What is wrong, in words. The C header's `trr_number_text` has the same.
     #[must_use]
     pub fn condition(self) -> &'static str {
         match self {

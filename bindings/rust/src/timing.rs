@@ -1,4 +1,4 @@
-//! The timing loop by itself, over real and over complex samples.
+//! The timing loop by itself, over real and over complex samples. Labels are those of docs/SPECIFICATION.md.
 
 use crate::ffi::{self, C32, Progress};
 use crate::refusal::Refusal;
@@ -18,7 +18,7 @@ pub type RealTiming = Timing<f32>;
 pub type ComplexTiming = Timing<C32>;
 
 impl<S: Sample> Timing<S> {
-    /// Sets up a loop. Refused with the lowest number of 1 to 6 that applies.
+    /// Sets up a loop. Refused with the lowest number of 1 to 6 that applies (T4).
     pub fn set_up(values: TimingValues) -> Result<Self, Refusal> {
         // SAFETY: a set-up takes any values.
         let answer = unsafe { S::SET_UP(values.raw()) };
@@ -28,21 +28,20 @@ impl<S: Sample> Timing<S> {
         })
     }
 
-    /// Makes the loop as it was just after its set-up.
+    /// Makes the loop as it was just after its set-up (T6).
     pub fn reset(&mut self) {
         // SAFETY: the library has given the record, and nobody else writes it.
         self.record = unsafe { S::RESET(self.record) };
     }
 
     /// Position of the next strobe in samples, counted from the first sample of the next run's input.
-    /// It is negative while the strobe lies before that sample. "The next strobe is reported as
-    /// (i - 3) + mu".
+    /// It is negative while the strobe lies before that sample (T21).
     #[must_use]
     pub fn next_strobe(&self) -> f64 {
         self.readings().next_strobe
     }
 
-    /// The pace: the estimate of the samples per symbol.
+    /// The tracked samples per symbol (pace): the estimate of how many samples a symbol has (T21).
     #[must_use]
     pub fn sps_estimate(&self) -> f64 {
         self.readings().sps_estimate
@@ -67,12 +66,13 @@ impl<S: Sample> Timing<S> {
 }
 
 impl RealTiming {
-    /// Runs the loop over the input and writes the strobes to the front of the output. It is never
-    /// refused: "Real timing (f32 samples) has no refusal in a run."
+    /// Runs the loop over the input and writes the strobes, the samples at the symbols' instants, to the
+    /// front of the output. A run on real samples is never refused (T1).
     ///
-    /// The run ends where the output is full or where the next strobe needs more input. In the latter
-    /// case all input is consumed. Output places behind the last strobe stay as found. What was not
-    /// consumed is to be handed again, in front of the next samples.
+    /// The run ends where the output's capacity (places) is used up or where the next strobe needs more
+    /// input (T9, T12). In the latter case all input is consumed. Output places behind the last strobe
+    /// stay as found (A10). Hand again what was not consumed, in front of the next samples: then it makes
+    /// no difference how a recording is cut into calls (B1).
     pub fn run(&mut self, input: &[f32], output: &mut [f32]) -> Progress {
         // SAFETY: the library has given the record, and nobody else writes it. The pointers and counts
         // are those of slices, which are never null; the borrows are exclusive where the library
@@ -90,12 +90,14 @@ impl RealTiming {
 }
 
 impl ComplexTiming {
-    /// Runs the loop over the input and writes the strobes to the front of the output. Refused with
-    /// [`Refusal::Odd`] where a length is odd; then the loop and the output stay as found.
+    /// Runs the loop over the input and writes the strobes, the samples at the symbols' instants, to the
+    /// front of the output. Refused with [`Refusal::Odd`] where a length is odd (T1); then the loop and the
+    /// output stay as found (A7).
     ///
-    /// The run ends where the output is full or where the next strobe needs more input. In the latter
-    /// case all input is consumed. Output places behind the last strobe stay as found. What was not
-    /// consumed is to be handed again, in front of the next samples.
+    /// The run ends where the output's capacity (places) is used up or where the next strobe needs more
+    /// input (T9, T12). In the latter case all input is consumed. Output places behind the last strobe
+    /// stay as found (A10). Hand again what was not consumed, in front of the next samples: then it makes
+    /// no difference how a recording is cut into calls (B1).
     pub fn run(&mut self, input: &[f32], output: &mut [f32]) -> Result<Progress, Refusal> {
         // SAFETY: the library has given the record, and nobody else writes it. The pointers and counts
         // are those of slices, which are never null; the borrows are exclusive where the library

@@ -1,23 +1,24 @@
-//! What the loops are set up with. "Ends of ranges are accepted".
+//! What the loops are set up with. Each range includes its ends. Labels are those of docs/SPECIFICATION.md.
 
 use crate::detector::Detector;
 use crate::ffi;
 
-/// What a timing loop is set up with.
+/// What a timing loop is set up with (T2). Each range includes its ends (A3).
 #[derive(Clone, Copy, Debug, PartialEq)]
 pub struct TimingValues {
-    /// Samples per symbol, 2 to 1,000,000.
+    /// Samples per symbol (pace), 2 to 1,000,000.
     pub sps: f64,
-    /// The detector.
+    /// The timing error detector.
     pub ted: Detector,
-    /// Loop bandwidth as a fraction of the symbol rate, 0.0001 to 0.1.
+    /// Loop bandwidth (width) as a fraction of the symbol rate, 0.0001 to 0.1.
     pub loop_bw: f64,
     /// Damping, 0.1 to 4; 1/√2 is usual.
     pub damping: f64,
-    /// Largest deviation of the pace from `sps`, as a fraction of `sps`, 0 to 0.05.
+    /// Maximum deviation (pull) of the tracked samples per symbol from `sps`, as a fraction of `sps`, 0 to
+    /// 0.05.
     pub max_deviation: f64,
-    /// Detector gain, above 0: the detector's value divided by the offset in symbols, for small
-    /// offsets.
+    /// Detector gain (slope), above 0: the detector's output divided by the timing offset in symbols, for
+    /// small offsets.
     pub ted_gain: f64,
 }
 
@@ -45,14 +46,14 @@ impl TimingValues {
     }
 }
 
-/// What a carrier loop is set up with beside its constellation.
+/// What a carrier loop is set up with beside its constellation (C2). Each range includes its ends (A3).
 #[derive(Clone, Copy, Debug, PartialEq)]
 pub struct CarrierValues {
-    /// Loop bandwidth as a fraction of the symbol rate, 0.0001 to 0.2.
+    /// Loop bandwidth (width) as a fraction of the symbol rate, 0.0001 to 0.2.
     pub loop_bw: f64,
     /// Damping, 0.1 to 4; 1/√2 is usual.
     pub damping: f64,
-    /// Largest frequency offset, in cycles per symbol, 0 to 0.25.
+    /// Maximum frequency offset (pull), in cycles per symbol, 0 to 0.25.
     pub max_offset: f64,
 }
 

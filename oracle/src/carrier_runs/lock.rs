@@ -1,5 +1,5 @@
-//! The lock detector: lock that is found on a signal and lost in noise, and document 01's cases of
-//! its two levels.
+//! The lock detector: lock that is found on a signal and lost in noise, and the cases of its two levels
+//! (X18 and X19 of docs/SPECIFICATION.md).
 
 use super::chains::near_lock;
 use super::{Recorder, Values};

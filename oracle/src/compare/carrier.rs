@@ -154,7 +154,7 @@ fn call(tally: &mut Tally, a: &mut CostasState, b: &mut CostasState, input: &[C3
     check(tally, a);
 }
 
-/// What is said of every state.
+/// What must hold of every state (C22 of docs/SPECIFICATION.md); and the level is finite.
 fn check(tally: &mut Tally, state: &CostasState) {
     tally.must(state.freq.abs() <= state.max, "the frequency");
     tally.must(state.level.is_finite(), "the level");

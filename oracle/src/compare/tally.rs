@@ -61,9 +61,9 @@ pub struct Tally {
     pub differences: u64,
     pub zero_sign: u64,
     pub nan_pattern: u64,
-    /// Errors that are said never to occur.
+    /// Errors that cannot occur (A11).
     pub internal: u64,
-    /// Statements of document 01 that did not hold.
+    /// Statements of docs/SPECIFICATION.md that did not hold (A10, T22, T23, C22).
     pub broken: u64,
     pub largest_position: usize,
     pub largest_level: f32,

@@ -207,7 +207,7 @@ where
     progress.consumed
 }
 
-/// What is said of every answer and state.
+/// What must hold of every answer and state (A10, T22, T23 of docs/SPECIFICATION.md).
 fn check<T: Parts>(
     tally: &mut Tally,
     state: &SymbolSyncState<T>,

@@ -1,4 +1,4 @@
-//! The cases of document 01 that are run, and the example script.
+//! The cases X5 to X8 and X13 to X21 of docs/SPECIFICATION.md, and the example script.
 
 use super::*;
 use crate::{Fallback, Reference};

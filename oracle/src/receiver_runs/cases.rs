@@ -1,4 +1,4 @@
-//! Document 01's cases that are run, and the top of the symbol count.
+//! The cases X13 to X21 of docs/SPECIFICATION.md, and the top of the symbol count.
 
 use super::receiver::{Receiver, Values};
 use super::{DETECTORS, Recorder, Turns};
@@ -37,7 +37,7 @@ pub fn record<K: Kernel>(recorder: &mut Recorder<K>) {
     top(recorder);
 }
 
-/// "Fresh, sps 2", with 3 samples and 1 place, 4 and 1, 4 and 0; "Fresh, sps 4".
+/// X13, X14 and X15 at 2 samples per symbol; X16 or X17, by the detector, at 4.
 fn paces<K: Kernel>(recorder: &mut Recorder<K>, detector: Ted) {
     let ramp: Vec<f32> = (1u8..13).map(f32::from).collect();
     let four = if detector == Ted::Gardner { 5 } else { 6 };
@@ -60,7 +60,7 @@ fn paces<K: Kernel>(recorder: &mut Recorder<K>, detector: Ted) {
     }
 }
 
-/// "Gain 5e-324: number 6. sps just under 2: number 1."
+/// A detector gain of 5e-324 (X20), and samples per symbol one f64 below 2 (X21).
 fn numbers<K: Kernel>(recorder: &mut Recorder<K>) {
     let mut steep = values(2.0, Ted::Gardner, qpsk());
     steep.timing.gain = 5e-324;
@@ -77,8 +77,8 @@ fn numbers<K: Kernel>(recorder: &mut Recorder<K>) {
     }
 }
 
-/// "Level 0.5 sets no lock, 0.3 clears none." The samples come with a zero before each, so that the
-/// timing error is zero and each strobe is one of them.
+/// Levels of exactly 0.5 (X18) and 0.3 (X19), and their neighbours. The samples come with a zero before each,
+/// so that the timing error is zero and each strobe is one of them.
 fn levels<K: Kernel>(recorder: &mut Recorder<K>) {
     let zero = C32::new(0.0, 0.0);
     for edge in edges() {

@@ -1,4 +1,4 @@
-//! The receiver, which the original has not: document 01's text over the original's loops.
+//! The receiver, which the original has not: part R of docs/SPECIFICATION.md over the original's loops.
 
 use crate::bits::{Parts, fresh_output};
 use crate::error::Error;
@@ -15,7 +15,7 @@ use crate::{carrier_runs, runs};
 pub struct Values {
     pub timing: runs::Values,
     pub carrier: carrier_runs::Values,
-    /// Whether the constellation is named. If it is not, it is the source's default.
+    /// Whether the constellation is named. If it is not, it is the original's default (R3).
     pub named: bool,
 }
 
@@ -55,7 +55,7 @@ pub struct Answer {
 }
 
 impl Receiver {
-    /// "Timing is set up first, all its checks before any of the carrier's."
+    /// A set-up: all of timing's values are checked before the carrier's (R4).
     pub fn new(values: Values) -> Result<Self, Error> {
         let timing = values.timing.set_up()?;
         let carrier = values.carrier.set_up()?;
@@ -67,7 +67,7 @@ impl Receiver {
         })
     }
 
-    /// "A reset resets both loops and clears the count."
+    /// Both loops are fresh again, and the count is 0 (R7).
     pub fn reset(&mut self) {
         self.timing.reset();
         self.carrier.reset();
@@ -86,8 +86,8 @@ impl Receiver {
         ran.expect("no complex run is refused, and the counts are equal")
     }
 
-    /// "Timing into a strobe buffer, then the carrier over the strobes produced, into the output." In a
-    /// run number 8 comes before 7; a refused one changes nothing.
+    /// A sample call: timing writes its strobes to the strobe buffer, and the carrier makes the output of
+    /// them (R1). Odd counts are refused before unequal lengths (R10); a refused call changes nothing (A7).
     pub fn try_run<K: Kernel>(
         &mut self,
         kernel: &K,
@@ -146,14 +146,14 @@ const POINTS: [(f32, f32); 8] = [
     (C8, -S8),
 ];
 
-/// The octant, by the point that the original gives for it. (The original's function that gives the
+/// The octant (C14), by the point that the original gives for it. (The original's function that gives the
 /// octant itself is kept to its file.)
 pub fn octant(y: C32) -> u64 {
     let place = POINTS.iter().position(|point| *point == octant_point(y));
     place.expect("one of the eight points") as u64
 }
 
-/// "Symbol numbers".
+/// The number of a symbol (R11 to R14).
 pub fn symbol_number(points: CostasConstellation, y: C32) -> u64 {
     match points {
         CostasConstellation::Bpsk => u64::from(y.re < 0.0 || (y.re == 0.0 && y.im < 0.0)),

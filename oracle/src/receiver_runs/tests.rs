@@ -1,6 +1,6 @@
 //! The recorded runs are in the form that README.md describes, and reach what they should. That both
-//! implementations give them, and that the turned lists are as document 01 claims, is asked wherever they
-//! are made.
+//! implementations give them, and that the turned lists agree (Q7 and Q8 of docs/SPECIFICATION.md), is asked
+//! wherever they are made.
 
 use std::collections::HashSet;
 use std::f64::consts::TAU;

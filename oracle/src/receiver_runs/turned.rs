@@ -1,6 +1,6 @@
-//! "Turned recordings": a list of calls, and the same list with each input turned, from a receiver whose
-//! phase is quarter turns on, for all turns that document 01 allows. The original's two lists must have
-//! the relation that document 01 claims.
+//! Turned recordings (part Q of docs/SPECIFICATION.md): a list of calls, and the same list with each input
+//! turned, from a receiver whose phase is quarter turns on, for all turns that Q3 allows. The original's two
+//! lists must agree as Q7 and Q8 say.
 
 use super::receiver::{Receiver, Values, samples};
 use super::{Called, Recorder, Turns};
@@ -121,12 +121,12 @@ fn played<K: Kernel>(recorder: &mut Recorder<K>, r: &mut Receiver, calls: &[Call
     Outcome { calls, receiver }
 }
 
-/// One quarter turn makes (re, im) into (-im, re).
+/// The sample after so many quarter turns (Q1).
 fn turn(z: C32, turns: u32) -> C32 {
     (0..turns).fold(z, |z, _| C32::new(-z.im, z.re))
 }
 
-/// The claim about two lists.
+/// Q7 and Q8 of two lists.
 fn check(straight: &Outcome, turned: &Outcome, turns: Turns) {
     for (first, second) in straight.calls.iter().zip(&turned.calls) {
         assert_eq!(first.answer, second.answer);
@@ -153,7 +153,7 @@ fn check(straight: &Outcome, turned: &Outcome, turns: Turns) {
     assert_eq!(second.carrier.phase(), on);
 }
 
-/// Equal as numbers, zeros alike, or both NaN.
+/// Alike in the sense of N10: the same number, whatever a zero's sign, or two NaN.
 fn alike(x: f32, y: f32) -> bool {
     x == y || (x.is_nan() && y.is_nan())
 }

@@ -43,7 +43,7 @@ fn values(sps: f64, detector: Ted, deviation: f64, gain: f64) -> Values {
     }
 }
 
-/// The cases of document 01 that are run.
+/// The cases X13 to X17 of docs/SPECIFICATION.md.
 pub fn cases<K: SymbolSync<f32>>(recorder: &mut Recorder<K>) {
     let ramp: Vec<f32> = (1u8..7).map(f32::from).collect();
     for (samples, places) in [(3, 1), (4, 1), (4, 0)] {

@@ -9,7 +9,7 @@ const SHORT: usize = 128;
 
 /// A state of one implementation. What a loop does not have does nothing.
 pub trait Machine: Sized {
-    /// Sets up: puts document 01's number into the sheet and, if it is not 0, the record, which is
+    /// Sets up: puts the number of its answer into the sheet and, if it is not 0, the record, which is
     /// all zeros then.
     fn open(set_up: &SetUp, sheet: &mut Sheet) -> Option<Self>;
     fn reset(&mut self);

@@ -21,8 +21,8 @@ pub enum Op {
 #[derive(Clone, Copy, Debug)]
 pub struct SetUp {
     pub values: Values,
-    /// What the library's codes of the last detector and of the last constellation are above their
-    /// own: "A code other than the named ones reads as the last one."
+    /// By how much the library's codes of the last detector and of the last constellation are above their
+    /// own. Such a code must read as the last one (L4 of docs/SPECIFICATION.md).
     pub spare: u32,
 }
 

@@ -15,8 +15,8 @@ use crate::receiver_runs::receiver::{self, Answer, Values, refused, symbol_numbe
 use crate::types::C32;
 use crate::{Fallback, Reference, carrier_runs, refusal, runs};
 
-/// Stands for an error that document 01 says never occurs. The library has no such number, so that
-/// one is a difference.
+/// Stands for an error that cannot occur (A11 of docs/SPECIFICATION.md). The library has no such number, so
+/// that one is a difference.
 const INTERNAL: u64 = 99;
 
 /// One of the original's implementations.
@@ -167,7 +167,7 @@ pub fn all(samples: usize) -> Answer {
     }
 }
 
-/// Document 01's receiver over the original's loops.
+/// The receiver (part R) over the original's loops.
 pub struct Receiver<K> {
     receiver: receiver::Receiver,
     kernel: K,

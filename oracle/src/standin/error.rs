@@ -14,7 +14,7 @@ pub enum Error {
         /// The length given.
         got: usize,
     },
-    /// A case that is said never to occur.
+    /// A case that cannot occur (A11 of docs/SPECIFICATION.md).
     Internal(&'static str),
 }
 

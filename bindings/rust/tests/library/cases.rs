@@ -1,11 +1,11 @@
-//! The cases of document 01 that carry no star.
+//! The cases that are run (X13 to X21 of docs/SPECIFICATION.md).
 
 use crate::{DETECTORS, carrier, timing};
 use train_receiver::{
     Carrier, ComplexTiming, Constellation, Detector, Progress, RealTiming, Receiver, Refusal,
 };
 
-/// Samples of input, places, and the counts that the document names.
+/// Samples of input, places, and the counts that the case must have.
 struct Case {
     sps: f64,
     samples: usize,
@@ -14,9 +14,8 @@ struct Case {
     produced: usize,
 }
 
-/// "Fresh, sps 2, 3 samples, 1 place: consumed 3, produced 0. 4 samples: 4 and 1, the strobe being the
-/// second sample. 4 samples, 0 places: 3 and 0." "Fresh, sps 4, 6 samples, 1 place: Gardner 5 and 1;
-/// Mueller-Müller 6 and 1."
+/// From a fresh loop: X13, X14 and X15 at 2 samples per symbol, which hold for both detectors; X16 (Gardner)
+/// or X17 (Mueller-Müller) at 4.
 fn cases(ted: Detector) -> [Case; 4] {
     let four = match ted {
         Detector::Gardner => 5,
@@ -103,9 +102,9 @@ fn receiver() {
     }
 }
 
-/// "Level 0.5 sets no lock, 0.3 clears none." BPSK samples on the axes have no error, so phase and
-/// frequency stay 0. The last sample brings the level to the edge exactly, or to the next number
-/// beyond it.
+/// A level of exactly 0.5 sets no lock (X18), one of exactly 0.3 clears none (X19). BPSK samples on the axes
+/// have no error, so phase and frequency stay 0. The last sample brings the level to the edge exactly, or to
+/// the next number beyond it.
 #[test]
 fn levels() {
     let one = [1.0, 0.0];
@@ -127,7 +126,7 @@ fn levels() {
     }
 }
 
-/// "Gain 5e-324: number 6. sps just under 2: number 1."
+/// A detector gain of 5e-324 (X20), and samples per symbol one f64 below 2 (X21).
 #[test]
 fn numbers_of_set_ups() {
     for ted in DETECTORS {

@@ -1,4 +1,5 @@
-//! Codes and numbers are those of the C header and of document 01's table.
+//! Codes (L4), and the numbers and texts of the refusals, are those of the C header. Labels are those of
+//! docs/SPECIFICATION.md.
 
 use crate::compiled::Program;
 use crate::{CONSTELLATIONS, DETECTORS, carrier, timing};
@@ -119,13 +120,13 @@ fn symbol_numbers() {
         let left = usize::from(re < 0.0);
         assert_eq!(symbol_number(Constellation::Bpsk, re, im), left);
     }
-    // "*8-PSK (1, 1): octant 1; *(0, 1): 2."
+    // A sample at the start of an octant belongs to it (X9, X10).
     assert_eq!(symbol_number(Constellation::Psk8, 1.0, 1.0), 1);
     assert_eq!(symbol_number(Constellation::Psk8, 0.0, 1.0), 2);
-    // "BPSK 1 if re is negative, or zero with im negative, else 0."
+    // Under BPSK the imaginary part decides if the real part is zero (R11).
     assert_eq!(symbol_number(Constellation::Bpsk, 0.0, -1.0), 1);
     assert_eq!(symbol_number(Constellation::Bpsk, 0.0, 1.0), 0);
-    // "Silence reads as 0."
+    // Silence (R14), and a sample whose parts are both NaN (R11, C14).
     for points in CONSTELLATIONS {
         assert_eq!(symbol_number(points, 0.0, 0.0), 0);
         assert_eq!(symbol_number(points, f32::NAN, f32::NAN), 0);

@@ -1,5 +1,5 @@
-//! "A refused run yields its number, counts 0 and 0 (the carrier alone has no counts), the same state,
-//! and every buffer unchanged." "in a run 8 before 7".
+//! A refused run changes neither its record nor a buffer, and its counts are 0 (A7); an odd count comes
+//! before unequal lengths (A5). Labels are those of docs/SPECIFICATION.md.
 
 use crate::{carrier, ramp, text, timing};
 use train_receiver::{Carrier, ComplexTiming, Constellation, Detector, Receiver, Refusal, ffi};

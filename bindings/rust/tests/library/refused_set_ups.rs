@@ -1,4 +1,5 @@
-//! Set-ups: which values are refused, with which number, and which are accepted.
+//! Set-ups: which values are refused, with which number, and which are accepted. Labels are those of
+//! docs/SPECIFICATION.md.
 
 use crate::{CONSTELLATIONS, carrier, text, timing};
 use train_receiver::{
@@ -104,8 +105,8 @@ fn carrier_ranges() {
     });
 }
 
-/// "Lowest number first in a set-up". "Timing is set up first, all its checks before any of the
-/// carrier's."
+/// Of several wrong values the lowest number is answered (A4); a receiver answers for timing's values first
+/// (R4).
 #[test]
 fn lowest_number_first() {
     let mut values = TimingValues {
@@ -142,7 +143,7 @@ fn lowest_number_first() {
     assert_eq!(carrier_answer(loops), Some(Refusal::Pull));
 }
 
-/// "A refused set-up yields its number and no state": in the state's place there are zeros.
+/// A refused set-up gives no state (A6): in its place there are zeros (L3).
 #[test]
 fn zeros_in_the_place_of_a_state() {
     let t = ffi::TimingValues {

@@ -1,4 +1,4 @@
-//! Fresh states, resets, setters and readings.
+//! Fresh states, resets, setters and readings. Labels are those of docs/SPECIFICATION.md.
 
 use crate::{CONSTELLATIONS, DETECTORS, carrier, ramp, text, timing};
 use train_receiver::{
@@ -10,8 +10,7 @@ fn fresh_timing<S: Sample>() {
         let values = timing(5.5, ted);
         let x = Timing::<S>::set_up(values).expect("accepted");
         assert_eq!(x.values(), values);
-        // "Fresh or reset: three history samples zero, position i = 4, fraction mu = 0, spacing
-        // omega = sps".
+        // A fresh loop (T6): the next strobe is at the second sample of the input.
         assert_eq!((x.next_strobe(), x.sps_estimate()), (1.0, 5.5));
         assert_eq!(x.record().track.clock.i, 4);
     }
@@ -24,7 +23,7 @@ fn fresh() {
     for points in CONSTELLATIONS {
         let x = Carrier::set_up(points, carrier()).expect("accepted");
         assert_eq!((x.constellation(), x.values()), (points, carrier()));
-        // "Fresh: phase 0 (32 bits are one turn), frequency, level 0, unlocked".
+        // A fresh carrier (C7).
         assert_eq!((x.phase(), x.frequency()), (0, 0.0));
         assert_eq!((x.lock_level(), x.locked()), (0.0, false));
     }
@@ -41,7 +40,7 @@ fn fresh_receiver() {
         assert_eq!((x.phase(), x.frequency(), x.count()), (0, 0.0, 0));
         assert_eq!((x.lock_level(), x.locked()), (0.0, false));
     }
-    // "Set up without a constellation it takes BPSK".
+    // Without a constellation (R3).
     let unnamed = Receiver::set_up_unnamed(values, carrier()).expect("accepted");
     assert_eq!(unnamed.constellation(), Constellation::Bpsk);
 }
@@ -98,7 +97,7 @@ fn phases() {
     assert_eq!(x.count(), 1);
 }
 
-/// "a frequency set is narrowed, flushed, limited, NaN becoming 0".
+/// Frequencies that are set (C9): an ordinary one, two beyond the limit, a tiny one, NaN.
 #[test]
 fn frequencies() {
     let mut x = Carrier::set_up(Constellation::Qpsk, carrier()).expect("accepted");
