@@ -6,8 +6,8 @@ use std::fmt::Write as _;
 use std::fs;
 use std::path::{Path, PathBuf};
 
-/// The sources' place if `SDRK_SRC` is not set, seen from this folder.
-const DEFAULT_SOURCES: &str = "../../shared/docs/src";
+/// Where the sources may lie if `SDRK_SRC` is not set, seen from this folder: the first that is there.
+const USUAL_SOURCES: [&str; 2] = ["../../sdrk", "../../shared/docs/src"];
 /// The original crate's own folder inside the sources.
 const CRATE: &str = "crates/core/sdrk-core/src";
 /// What the original files may do that we do not look at.
@@ -41,15 +41,21 @@ fn main() {
 
 /// The original crate's folder. A relative `SDRK_SRC` is seen from this folder.
 fn sources_folder(here: &Path) -> PathBuf {
-    let given = env::var("SDRK_SRC").unwrap_or_else(|_| DEFAULT_SOURCES.to_string());
+    let there = |place: &&str| here.join(place).join(CRATE).is_dir();
+    let usual = || {
+        USUAL_SOURCES
+            .into_iter()
+            .find(there)
+            .unwrap_or(USUAL_SOURCES[0])
+    };
+    let given = env::var("SDRK_SRC").unwrap_or_else(|_| usual().to_string());
     let folder = here.join(given).join(CRATE);
     folder.canonicalize().unwrap_or_else(|error| {
         panic!(
             "the original's files are not there: {} cannot be read ({error}). Clone \
-             https://github.com/Andste82/sdrk, check out commit 907c296844 and set SDRK_SRC to the top of \
-             that clone, the folder that holds {CRATE}; a relative path is seen from the folder oracle. \
-             Without SDRK_SRC the build looks in {DEFAULT_SOURCES}. README.md, section \"The sources\", has \
-             the commands.",
+             https://github.com/Andste82/sdrk beside this repository and check out commit 907c296844, or set \
+             SDRK_SRC to the folder that holds {CRATE}; a relative path is seen from the folder oracle. \
+             README.md, section \"The sources\", has the commands.",
             folder.display()
         )
     })

@@ -28,6 +28,8 @@ from statistics import median
 HERE = Path(__file__).resolve().parent
 BLOCKS = ["64", "2,048", "65,536"]
 BEHIND = 2.0
+# Where the original may lie, as in build.rs.
+USUAL_SOURCES = ["../../sdrk", "../../shared/docs/src"]
 
 
 def built(root, folder):
@@ -38,7 +40,8 @@ def built(root, folder):
     ignore = shutil.ignore_patterns("target")
     shutil.copytree(HERE, folder / "oracle", ignore=ignore)
     shutil.copytree(root / "bindings", folder / "bindings", ignore=ignore)
-    source = HERE / os.environ.get("SDRK_SRC", "../../shared/docs/src")
+    usual = next((place for place in USUAL_SOURCES if (HERE / place).is_dir()), USUAL_SOURCES[0])
+    source = HERE / os.environ.get("SDRK_SRC", usual)
     settings = dict(os.environ, TRAIN_RECEIVER_LIB=str(library), SDRK_SRC=str(source))
     subprocess.run(["cargo", "build", "--quiet", "--offline", "--profile", "speed", "--features", "ported",
                     "--target-dir", "target"], cwd=folder / "oracle", env=settings, check=True)

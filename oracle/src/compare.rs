@@ -17,8 +17,8 @@ use tally::Tally;
 pub const SEED: u64 = 1;
 /// The symbols of timing, and as many again of the carrier, if no count is given.
 pub const SYMBOLS: u64 = 2_000_000;
-/// No position between calls may be above this. The exact bound is one less (T23).
-const HIGHEST_POSITION: usize = 1_312_502;
+/// No position between calls may be above this (T23).
+const HIGHEST_POSITION: usize = 1_312_501;
 
 /// What came out.
 pub struct Report {

@@ -25,7 +25,7 @@ pub fn flat<T: Parts>(samples: &[T]) -> Vec<f32> {
 pub fn number<A>(given: &Result<A, Error>) -> u64 {
     match given {
         Ok(_) => 0,
-        Err(error) => u64::from(refusal::number(error).expect("document 01 names it")),
+        Err(error) => u64::from(refusal::number(error).expect("an error that has a number")),
     }
 }
 

@@ -217,13 +217,13 @@ fn check<T: Parts>(
 ) {
     let Progress { consumed, produced } = progress;
     let counts = consumed <= input.len() && produced <= output.len();
-    tally.must(counts, "counts no more than was lent");
+    tally.must(counts, "a count above what was lent (A10)");
     let all = produced == output.len() || consumed == input.len();
-    tally.must(all, "takes all input if a place is left");
+    tally.must(all, "input left although a place is left (A10)");
     tally.must_be_unwritten(&output[produced..]);
-    tally.must((0.0..1.0).contains(&state.mu), "the fraction");
+    tally.must((0.0..1.0).contains(&state.mu), "the fraction (T22)");
     let (low, high) = (state.sps - state.lim, state.sps + state.lim);
-    tally.must((low..=high).contains(&state.omega), "the spacing");
+    tally.must((low..=high).contains(&state.omega), "the spacing (T22)");
     let position = (1..=HIGHEST_POSITION).contains(&state.i);
-    tally.must(position, "the position between calls");
+    tally.must(position, "the position between calls (T23)");
 }
