@@ -31,6 +31,7 @@ mod signal;
 #[cfg(feature = "ported")]
 mod speed;
 mod states;
+mod theory;
 
 /// The original's first implementation, the one that is ported.
 pub struct Fallback;
@@ -48,6 +49,9 @@ usage: oracle play [--reference] SCRIPT   plays a script ('-' reads standard inp
        oracle receiver                    writes those of the receiver
        oracle library                     writes those of the functions that the static library exports
        oracle record FOLDER               writes all recorded answers, FOLDER/NAME/stdin each
+       oracle detector-gain               measures the detector gain of common pulses
+       oracle carrier-offset              measures what a carrier that is off does to each timing detector
+       oracle pull-in                     measures how quick and how noisy the loops are
        oracle scale [--seed S] [--seconds N | --symbols N | --session K]
                                           compares the ported loops with the original's (feature 'ported')
        oracle speed [--fine | --into FILE]
@@ -99,6 +103,7 @@ fn main() -> ExitCode {
         ["speed", "--into", file] => {
             speed::speed_into(Path::new(file)).and_then(|report| tell(&report))
         }
+        [name] => theory::tables(name).map_or(Err(USAGE.to_string()), |text| write_out(&text)),
         _ => Err(USAGE.to_string()),
     };
     match done {
