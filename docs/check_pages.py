@@ -18,6 +18,8 @@ ROOT = Path(__file__).resolve().parent.parent
 LABEL = re.compile(r"\b([NAETCRQBXLPKFG])([1-9][0-9]?)\b")
 # Words that look like labels and are none.
 NO_LABELS = {"C32", "Q15", "C99"}
+# A folder of the original, which a page may name.
+ORIGINAL = "crates/core/sdrk-core/src"
 COLUMNS = 121
 ROW = 300
 COMMENT = {".antt": "--", ".rt": "//", ".rs": "//", ".edit": "#", ".h": "*"}
@@ -185,7 +187,7 @@ def pages():
                 if "://" not in link and not ((ROOT / name).parent / link).exists():
                     fault(place, f"the link {link} leads nowhere")
             for path in re.findall(r"`((?:crates|docs|oracle|bindings)/[\w./-]*\w)`", line):
-                if not (ROOT / path).exists() and not path.startswith("crates/crate"):
+                if not (ROOT / path).exists() and "NAME" not in path and path != ORIGINAL:
                     fault(place, f"no {path}")
 
 

@@ -39,7 +39,7 @@ refusedCall n s ys = record { number = numberOf n; state = s; output = ys }
 abbrev pub done : CostasState → List Float → Outcome
 done s xs = let r = symbols s xs in record { number = 0; state = record { constellation = s .constellation; params = s .params; track = r .last }; output = parts (r .values) }
 
--- over buffers of any lengths: the symbols that both hold whole, at the front of the output
+-- C24: over buffers of any lengths: the symbols that both hold whole, at the front of the output
 abbrev pub carried : CostasState → List Float → List Float → Outcome
 carried s xs ys = let r = done s (take (2 * (length ys / 2)) xs) in record { number = 0; state = r .state; output = written (r .output) ys }
 

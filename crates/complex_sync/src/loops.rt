@@ -191,7 +191,7 @@ pub struct Recovered {
     pub state: SymbolSyncState,
 }
 
-// T9: a call that is not refused: the strobes go to the front of the output.
+// T27: a call that is not refused: the strobes go to the front of the output.
 // A last f32 without a partner, in either buffer, is left alone: `run` refuses such a buffer.
 pub fn recover(s: SymbolSyncState, input: &[f32], output: &mut [f32]) -> Recovered
     requires { ⌜ Given (sync s) ⌝ }

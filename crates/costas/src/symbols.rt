@@ -57,7 +57,7 @@ fn symbols(
     t
 }
 
-// A run that refuses nothing. The loop is a function of its own, which is handed what it changes and what it
+// C24: a run that refuses nothing. The loop is a function of its own, which is handed what it changes and what it
 // reads: a whole state handed to it and back is moved about in memory, which shows in short calls.
 pub fn carry(s: CostasState, input: &[f32], output: &mut [f32]) -> CostasState
     requires { ⌜ Given s ⌝ }

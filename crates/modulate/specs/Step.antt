@@ -41,7 +41,7 @@ stepped nan = 0
 stepped (inf s) = cond s 0 0xffffffff
 stepped (fin s m e) = cond (leb (castEnd * down e) (m * up e)) (cond s 0 0xffffffff) (wrapped s (wholeDown s (m * up e) (down e)))
 
--- x × k + 1/2, two roundings
+-- C25: x × k + 1/2, two roundings
 abbrev pub stepOf : Float → Float → ℕ
 stepOf x k = stepped (x ⊠ k ⊞ half₀)
 

@@ -57,7 +57,7 @@ fn phase_step_wide(v: f64) -> u32
     0
 }
 
-// The phase step `floor(x * k + 0.5)` as `i64`, wrapped into `u32`. A NaN gives 0.
+// C25: the phase step `floor(x * k + 0.5)` as `i64`, wrapped into `u32`. A NaN gives 0.
 pub fn phase_step(x: f64, k: f64) -> u32
     ensures { λ r. ⌜ r ≡ stepOf x k ⌝ }
 {

@@ -64,7 +64,7 @@ fn refused(n: Refusal, r: Receiver) -> Ran
     }
 }
 
-// R10: one call. An odd count of f32 in any buffer is refused, then a strobe buffer that is not as long as
+// R10, R15: one call. An odd count of f32 in any buffer is refused, then a strobe buffer that is not as long as
 // the output, with the same receiver and every buffer as found.
 pub fn run(r: Receiver, input: &[f32], strobes: &mut [f32], output: &mut [f32]) -> Ran
     requires { ⌜ Given r ⌝ }

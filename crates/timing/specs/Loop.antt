@@ -56,7 +56,7 @@ unfoldable pub errorOf : {A : Type 0} → Ops A → Ted → Track A → A → A 
 errorOf o Gardner t y d = o .gardner (t .yPrev) y (t .mid)
 errorOf o MuellerMuller t y d = o .mm (t .dPrev) y d (t .yPrev)
 
--- T9: what the strobe y changes
+-- T26: what the strobe y changes
 unfoldable pub strobed : {A : Type 0} → Ops A → Params → Track A → A → Track A
 strobed o p t y =
     let d = decision o (p .ted) (t .dPrev) y in

@@ -113,7 +113,7 @@ calledReal s xs ys = done (λ vs. vs) (ran real s xs (length ys)) ys
 abbrev pub refusedCall : {A : Type 0} → Refusal → Sync A → List Float → Outcome A
 refusedCall n s ys = record { number = numberOf n; consumed = 0; produced = 0; state = s; output = ys }
 
--- a call whose buffers hold whole samples
+-- T27: a call that is not refused
 abbrev pub doneComplex : Sync C32 → List Float → List Float → Outcome C32
 doneComplex s xs ys = done parts (ran complex s (samples xs) (length ys / 2)) ys
 
