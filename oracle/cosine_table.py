@@ -155,11 +155,11 @@ def check_rules(patterns):
     c = [value_of(b) for b in patterns]
     rules = {
         "4,097 entries": len(c) == TURN + 1,
-        "entry 0 is 1 and equals entry 4096": c[0] == 1 and patterns[0] == patterns[TURN],
-        "entries 1024 and 3072 are plus zero": patterns[1024] == 0 == patterns[3072],
-        "j + 2048 negates j": all(c[j + 2048] == -c[j] for j in range(2049)),
-        "2048 - j negates j": all(c[2048 - j] == -c[j] for j in range(2049)),
-        "entries 0 to 2048 strictly fall": all(c[j + 1] < c[j] for j in range(2048)),
+        "entries 0 and 4096 are 1": c[0] == 1 and patterns[0] == patterns[TURN],
+        "the zeros have a plus sign": patterns[1024] == 0 == patterns[3072],
+        "half a turn on the sign changes": all(c[j + 2048] == -c[j] for j in range(2049)),
+        "mirrored the sign changes": all(c[2048 - j] == -c[j] for j in range(2049)),
+        "the first half falls": all(c[j + 1] < c[j] for j in range(2048)),
         "the doubling rule": all(
             abs((2 * c[j] * c[j] - 1) - c[2 * j]) <= Fraction(1, 2**22) for j in range(2049)
         ),

@@ -16,7 +16,7 @@ increment = 1013904223
 abbrev pub drawn : ℕ → ℕ
 drawn s = (multiplier * s + increment) % 2 ^ 32
 
--- the symbol of a state: its top two bits are the number; number 0 is (1, 1), and each next one is a quarter turn on
+-- P5: the symbol of a state: (1, 1), turned as often as its top two bits say
 abbrev pub sentPoint : ℕ → C32
 sentPoint s = turns (s / 2 ^ 30) (record { re = one₀; im = one₀ })
 

@@ -37,8 +37,7 @@ fn step(state: u32) -> u32
     ((MULTIPLIER * (state as u64) + INCREMENT) % MODULUS) as u32
 }
 
-// The symbol of a state. Its top two bits are the number: 0 is (1, 1), and each next one is a quarter
-// turn on.
+// P5: the symbol of a state: (1, 1), turned as often as its top two bits say.
 fn point(state: u32) -> C32
     ensures { λ r. ⌜ r ≡ sentPoint state ⌝ }
 {
