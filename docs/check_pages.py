@@ -4,9 +4,12 @@
     python3 docs/check_pages.py
 
 Every label that is cited is one of SPECIFICATION.md, and every label of it has a row in PROMISES.md. Each row of
-PROMISES.md has at most 300 characters, and what it names is there: files, theorems, functions, must-fail edits. So are
-theorems and files in THEOREMS.md, the links of every page, and the paths that a page names. Prose is wrapped. No file
-but PROMISES.md speaks of the request's papers by their numbers. It prints what is wrong; the status is then 1.
+PROMISES.md has at most 300 characters, and what it names is defined where it says: theorems and definitions in the
+row's files, functions in the code of its crates, must-fail edits in theirs. Each edit is in a row, and each label that
+answers a sentence of the request stands in the last table. The statements of THEOREMS.md are those of the files. The
+links of every page lead somewhere, and so do the paths that it names. Prose is wrapped. No file but PROMISES.md speaks
+of the request's papers by their numbers. It prints what is wrong; the status is then 1. It cannot tell whether a
+theorem says what its label says.
 """
 
 import re
@@ -22,7 +25,9 @@ NO_LABELS = {"C32", "Q15", "C99"}
 ORIGINAL = "crates/core/sdrk-core/src"
 COLUMNS = 121
 ROW = 300
-COMMENT = {".antt": "--", ".rt": "//", ".rs": "//", ".edit": "#", ".h": "*"}
+COMMENT = {".antt": "--", ".rt": "//", ".rs": "//", ".c": "*", ".h": "*", ".edit": "#", ".py": "#", ".sh": "#"}
+# What may not be left in a page.
+PLACEHOLDER = re.compile(r"\b[A-Z]+_(?:AFTER|BEFORE|TABLE|HERE)\b|\bTODO\b")
 
 faults = []
 
@@ -50,8 +55,11 @@ def cells(row):
 
 
 def specified():
-    """The labels that SPECIFICATION.md defines."""
-    return set(re.findall(r"\*\*([A-Z][0-9]+)\.?\*\*", text_of("docs/SPECIFICATION.md")))
+    """The labels that SPECIFICATION.md defines, each once."""
+    labels = re.findall(r"^(?:- |\| )\*\*([A-Z][0-9]+)\.?\*\*", text_of("docs/SPECIFICATION.md"), re.M)
+    for label in sorted({label for label in labels if labels.count(label) > 1}):
+        fault("docs/SPECIFICATION.md", f"{label} is defined twice")
+    return set(labels)
 
 
 def spread(text):
@@ -78,15 +86,17 @@ def path_of(short):
 
 
 def defines(path, name):
-    """Whether a file, or a folder of code, has this name as a word."""
+    """Whether a file, or a folder of code, defines this name."""
+    word = re.escape(name)
+    law = re.compile(rf"^\s*(?:(?:pub|abbrev|unfoldable|record|data) )*{word}(?: [({{].*)? :", re.M)
+    code = re.compile(rf"\b(?:fn|struct|enum|const)\s+{word}\b")
     paths = sorted(path.rglob("*.rt")) if path.is_dir() else [path]
-    word = re.compile(rf"(?<![\w«-]){re.escape(name)}(?![\w-])")
-    return any(word.search(one.read_text(encoding="utf-8")) for one in paths)
+    return any((code if one.suffix == ".rt" else law).search(one.read_text(encoding="utf-8")) for one in paths)
 
 
 def promised(known):
     """The rows of PROMISES.md."""
-    rows, edits_named = set(), set()
+    rows, edits_named, asked = set(), set(), set()
     for number, line in enumerate(text_of("docs/PROMISES.md").split("\n"), 1):
         place = f"docs/PROMISES.md:{number}"
         if len(line) > ROW:
@@ -96,32 +106,33 @@ def promised(known):
             rows |= spread(row[0])
             named_in(place, row[1], row[2], row[3])
             edits_named |= edits_of(place, row[3])
+            asked |= spread(row[0]) if row[4] != "added" else set()
     for label in sorted(known - rows):
         fault("docs/PROMISES.md", f"no row for {label}")
     for label in sorted(rows - known):
         fault("docs/PROMISES.md", f"{label} is no label")
     for edit in sorted(all_edits() - edits_named):
         fault("docs/PROMISES.md", f"the edit {edit} is in no row")
+    last = text_of("docs/PROMISES.md").split("## The request, sentence by sentence")[-1]
+    for label in sorted(asked - spread(last)):
+        fault("docs/PROMISES.md", f"{label} is not in the last table")
 
 
 def named_in(place, what, where, edits):
-    """The names of a row stand in its files, or in the code of the crates that it names."""
+    """The names of a row are defined in its files, or in the code of the crates that it names."""
     paths = [path_of(short) for short in re.findall(r"`([\w/]+)`", where) if "/" in short]
     for path in paths:
         if not path.exists():
             fault(place, f"no file {path.relative_to(ROOT)}")
     crates = {path.relative_to(ROOT).parts[1] for path in paths} | set(re.findall(r"(\w+):", edits))
     crates |= set(re.findall(r"`(\w+)::", what))
-    code = [ROOT / "crates" / crate for crate in crates]
+    code = [ROOT / "crates" / crate / "src" for crate in crates]
     for name in re.findall(r"`([^`]+)`", what):
         word = name.split("::")[-1].split(" ")[0].replace("&mut", "")
         if not word or "/" in name or (ROOT / "crates" / word).is_dir() or (ROOT / word).is_dir():
             continue
-        there = [path for path in paths if path.exists() and defines(path, word)]
-        in_code = [folder for folder in code for one in folder.rglob("*")
-                   if one.suffix in (".rt", ".antt") and "must-fail" not in one.parts and defines(one, word)]
-        if paths and not there and not in_code:
-            fault(place, f"`{name}` is not in {where}")
+        if paths and not any(path.exists() and defines(path, word) for path in paths + code):
+            fault(place, f"`{name}` is not defined in {where}")
 
 
 def edits_of(place, text):
@@ -161,15 +172,24 @@ def cited(known):
 def theorems():
     """THEOREMS.md: each heading's file has the theorem, and the statement stands in it, blanks aside."""
     text = text_of("docs/THEOREMS.md")
-    for heading, name, short, rest in re.findall(r"^## (\d+\. `([^`]+)`), `([\w/]+)`\n(.*?)(?=^## |\Z)", text, re.M | re.S):
+    section = re.compile(r"^## (\d+\. `[^`]+`), `([\w/]+)`\n(.*?)(?=^## |\Z)", re.M | re.S)
+    for heading, short, rest in section.findall(text):
         path = path_of(short)
         if not path.exists():
             fault("docs/THEOREMS.md", f"{heading}: no file {short}")
             continue
         source = re.sub(r"\s+", " ", path.read_text(encoding="utf-8"))
-        for block in re.findall(r"```\n(.*?)```", rest, re.S):
-            if re.sub(r"\s+", " ", block).strip() not in source:
-                fault("docs/THEOREMS.md", f"{heading}: the statement is not in {short}")
+        blocks = re.findall(r"```\n(.*?)```", rest, re.S)
+        if not blocks:
+            fault("docs/THEOREMS.md", f"{heading}: no statement")
+        name = heading.split("`")[1]
+        for block in blocks:
+            _, found, after = source.partition(re.sub(r"\s+", " ", block).strip())
+            whole = after.startswith((f" {name} ", " unfolding ", " { "))
+            if not found or not whole or (path.suffix == ".antt" and name not in block):
+                fault("docs/THEOREMS.md", f"{heading}: the statement is not the whole one of {short}")
+    if len(section.findall(text)) != len(re.findall(r"^## \d", text, re.M)):
+        fault("docs/THEOREMS.md", "a heading has not the form: number, name, file")
 
 
 def pages():
@@ -181,8 +201,11 @@ def pages():
         for number, line in enumerate(text_of(name).split("\n"), 1):
             place = f"{name}:{number}"
             fenced ^= line.lstrip().startswith("```")
-            if len(line) > COLUMNS and not fenced and not line.lstrip().startswith("|") and not line.startswith("    "):
+            free = fenced or line.lstrip().startswith("|") or line.startswith("    ")
+            if len(line) > (ROW if free else COLUMNS) and not line.lstrip().startswith("|"):
                 fault(place, f"{len(line)} columns")
+            if PLACEHOLDER.search(line):
+                fault(place, "a placeholder")
             for link in re.findall(r"\]\(([^)#]+?)(?:#[^)]*)?\)", line):
                 if "://" not in link and not ((ROOT / name).parent / link).exists():
                     fault(place, f"the link {link} leads nowhere")
@@ -193,7 +216,7 @@ def pages():
 
 def papers():
     """No file but PROMISES.md names the request's papers."""
-    said = re.compile(r"document 0[0-9]|document 000", re.I)
+    said = re.compile(r"\b(?:document|paper|doc)s? 0[0-9]|0[0-2]-(?:request|scope|change)", re.I)
     for name in files():
         if name in ("docs/PROMISES.md", "docs/check_pages.py") or name.startswith(".git"):
             continue

@@ -4,9 +4,10 @@
     target/bin/make_recording | target/bin/receive_recording | python3 oracle/sent_symbols.py
     target/bin/make_recording | python3 oracle/sent_symbols.py turn 1 | target/bin/receive_recording
 
-The first reads digits and a summary on standard input and says how many symbols are as sent, how many quarter turns
-they are round, and which are not as sent. The second copies a recording (complex f32, little-endian) from standard input
-to standard output, each sample turned by so many quarters. Labels are those of docs/SPECIFICATION.md.
+The first reads digits and a summary on standard input and says how many symbols are as sent, how many quarter
+turns they are round, and which are not as sent; the status is 1 if most are not. The second copies a recording
+(complex f32, little-endian) from standard input to standard output, each sample turned by so many quarters. Labels
+are those of docs/SPECIFICATION.md.
 """
 
 import sys
@@ -42,9 +43,13 @@ def judged(digits):
 
 def compare():
     """Reads digits and says how they compare."""
-    lines = sys.stdin.read().split("\n")
+    lines = sys.stdin.buffer.read().decode("latin-1").split("\n")
     digits = [int(digit) for line in lines if line and not line.strip("0123") for digit in line]
+    if not digits:
+        sys.exit("sent_symbols: no digits on standard input; it reads what receive_recording writes")
     turn, count, wrong = judged(digits)
+    if 2 * len(wrong) > count:
+        sys.exit("sent_symbols: these are not the symbols of the sample recording, or it was not received")
     quarters = "1 quarter turn" if turn == 1 else f"{turn} quarter turns"
     print(f"{count - len(wrong)} of {count} symbols are as sent, {quarters} round")
     if wrong:
@@ -53,7 +58,10 @@ def compare():
 
 def turned(quarters):
     """Copies a recording, each sample turned (Q1)."""
-    parts = array("f", sys.stdin.buffer.read())
+    recording = sys.stdin.buffer.read()
+    if len(recording) % 8 > 0:
+        sys.exit("sent_symbols: the recording ends inside a sample")
+    parts = array("f", recording)
     if sys.byteorder == "big":
         parts.byteswap()
     for _ in range(quarters % 4):

@@ -84,10 +84,10 @@ static uint32_t receive(trr_receiver *receiver, const float *samples, size_t cou
 
 int main(void)
 {
-    /* Gardner's detector gives 4 for each symbol of offset, for parts of 1 and -1 with linear
-     * transitions. */
+    /* Gardner's detector gain for QPSK with parts of 1 and -1 and straight transitions: 2 * 1.5
+     * (docs/THEORY.md). */
     trr_timing_values timing = {.sps = SPS, .ted = TRR_GARDNER, .loop_bw = 0.01, .damping = 1.0,
-                                .max_deviation = 0.01, .ted_gain = 4.0};
+                                .max_deviation = 0.01, .ted_gain = 3.0};
     trr_carrier_values carrier = {.loop_bw = 0.02, .damping = 1.0, .max_offset = 0.05};
 
     trr_timing_values slow = timing;

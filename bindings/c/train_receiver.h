@@ -16,7 +16,7 @@
  *   it is not specified. Today every call with it ends, and a run answers as if it were done.
  *   trr_real_run reads a float that stands 16 bytes in front of its input, which may end the program.
  *   The other runs keep to their buffers. Timing fills the output with values that mean nothing, and
- *   in later runs it consumes everything and produces nothing. The carrier passes its input on as it is.
+ *   in later runs it consumes everything and produces nothing. The carrier passes finite samples on.
  * - Results. A reset or a setter changes nothing in place: it answers the new record (L5). A run that is
  *   refused says so in its answer alone. So every function is marked TRR_MUST_USE, and a compiler
  *   that knows such a mark warns where an answer is dropped.
@@ -67,17 +67,17 @@ extern "C" {
 
 /**
  * The timing error detectors. Gardner's needs no carrier lock. Mueller-Müller's decides on strobes from which
- * the carrier is not removed yet, so that under QPSK and 8-PSK a carrier offset can make it slip symbols or
- * fail; at a loop bandwidth of 0.01 an offset of 0.0005 cycles per symbol is enough for that. Prefer
- * Gardner's unless the carrier is removed first. docs/THEORY.md has the measured table.
+ * the carrier is not removed yet, so that under QPSK and 8-PSK a carrier that turns slowly (0.0001 to 0.001
+ * cycles per symbol at a loop bandwidth of 0.01), or that stands at a bad angle, makes it slip symbols or
+ * fail. Prefer Gardner's unless the carrier is removed first. docs/THEORY.md has the measured table.
  */
 enum trr_detector {
     /** Gardner: the last strobe less this one, times the midpoint sample (middle) between the two. For
      *  complex samples, the product of the real parts and that of the imaginary parts are added (T14). */
     TRR_GARDNER = 0,
     /** Mueller-Müller: the last strobe's decision times this strobe, less this strobe's decision times the
-     *  last strobe, added likewise. A decision is the sign of each part: 1, -1, or 0 for a zero or NaN
-     *  (T15). */
+     *  last strobe, each product being that of the real parts plus that of the imaginary parts. A decision
+     *  is the sign of each part: 1, -1, or 0 for a zero or NaN (T15). */
     TRR_MUELLER_MUELLER = 1
 };
 
@@ -111,8 +111,8 @@ enum trr_number {
     TRR_SLOPE = 5,
     /** A gain of the timing loop, kp or ki, that follows from the values (T3) is not finite (E6). */
     TRR_GAINS = 6,
-    /** Two buffers are not equally long: the carrier's input and output, or the receiver's strobe buffer and
-     *  output (E7). */
+    /** Two buffers are not equally long: input and output of a carrier, or strobe buffer and output of a
+     *  receiver (E7). */
     TRR_UNEVEN = 7,
     /** The count of f32 of a complex buffer is odd (E8). */
     TRR_ODD = 8
@@ -191,7 +191,8 @@ typedef struct trr_timing_values {
      *  0.05. */
     double max_deviation;
     /** Detector gain (slope), above 0: the detector's output divided by the timing offset in symbols, for
-     *  small offsets. */
+     *  small offsets. It grows with the square of the level (Gardner) or with the level (Mueller-Müller).
+     *  docs/THEORY.md has a table. */
     double ted_gain;
 } trr_timing_values;
 
@@ -371,7 +372,8 @@ trr_counts trr_complex_run(trr_complex_timing *x,
 
 /** What a carrier loop is set up with beside its constellation (C2). Each range includes its ends (A3). */
 typedef struct trr_carrier_values {
-    /** Loop bandwidth (width) as a fraction of the symbol rate, 0.0001 to 0.2. */
+    /** Loop bandwidth (width) as a fraction of the symbol rate, 0.0001 to 0.2. It is that of symbols of
+     *  magnitude 1 under BPSK and 8-PSK and 0.707 under QPSK: the level acts as a gain (docs/THEORY.md). */
     double loop_bw;
     /** Damping, 0.1 to 4; 1/sqrt(2) is usual. */
     double damping;

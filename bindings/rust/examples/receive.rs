@@ -31,9 +31,9 @@ fn main() -> Result<(), Refusal> {
         loop_bw: 0.01,
         damping: 1.0,
         max_deviation: 0.01,
-        // Gardner's detector gives 4 for each symbol of offset, for parts of 1 and -1 with linear
-        // transitions.
-        ted_gain: 4.0,
+        // Gardner's detector gain for QPSK with parts of 1 and -1 and straight transitions: 2 * 1.5
+        // (docs/THEORY.md).
+        ted_gain: 3.0,
     };
     let carrier = CarrierValues {
         loop_bw: 0.02,

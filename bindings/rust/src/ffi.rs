@@ -266,7 +266,7 @@ pub struct Carrier {
 #[derive(Clone, Copy, Debug)]
 #[repr(C)]
 pub struct CarrierSetUp {
-    /// 0 if the set-up is done, else the number of its refusal, 1 to 6 (E1 to E6).
+    /// 0 if the set-up is done, else the number of its refusal, 2, 3 or 4 (E2 to E4).
     pub number: u32,
     /// The state.
     pub state: Carrier,

@@ -20,7 +20,7 @@
 //!     loop_bw: 0.01,
 //!     damping: 1.0,
 //!     max_deviation: 0.01,
-//!     ted_gain: 4.0,
+//!     ted_gain: 3.0,
 //! };
 //! let carrier = CarrierValues {
 //!     loop_bw: 0.02,

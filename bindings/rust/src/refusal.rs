@@ -24,8 +24,8 @@ pub enum Refusal {
     Slope = 5,
     /// A gain of the timing loop, kp or ki, that follows from the values (T3) is not finite (E6).
     Gains = 6,
-    /// Two buffers are not equally long: the carrier's input and output, or the receiver's strobe buffer
-    /// and output (E7).
+    /// Two buffers are not equally long: input and output of a carrier, or strobe buffer and output of a
+    /// receiver (E7).
     Uneven = 7,
     /// The count of f32 of a complex buffer is odd (E8).
     Odd = 8,

@@ -18,7 +18,8 @@ pub struct TimingValues {
     /// 0.05.
     pub max_deviation: f64,
     /// Detector gain (slope), above 0: the detector's output divided by the timing offset in symbols, for
-    /// small offsets.
+    /// small offsets. It grows with the square of the level (Gardner) or with the level
+    /// (Mueller-Müller). docs/THEORY.md has a table.
     pub ted_gain: f64,
 }
 
@@ -49,7 +50,8 @@ impl TimingValues {
 /// What a carrier loop is set up with beside its constellation (C2). Each range includes its ends (A3).
 #[derive(Clone, Copy, Debug, PartialEq)]
 pub struct CarrierValues {
-    /// Loop bandwidth (width) as a fraction of the symbol rate, 0.0001 to 0.2.
+    /// Loop bandwidth (width) as a fraction of the symbol rate, 0.0001 to 0.2. It is that of symbols of
+    /// magnitude 1 under BPSK and 8-PSK and 0.707 under QPSK: the level acts as a gain (docs/THEORY.md).
     pub loop_bw: f64,
     /// Damping, 0.1 to 4; 1/√2 is usual.
     pub damping: f64,

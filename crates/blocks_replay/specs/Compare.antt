@@ -1,4 +1,4 @@
--- P6: when two cuts of a recording give the same, and how cuts are counted. Definitions only.
+-- P7: when two cuts of a recording give the same, and how cuts are counted. Definitions only.
 use Prim.Native.Nat.{ℕ, _+_, _%_, _^_}
 use mathlib.Core.Bool.{Bool, _&&_, cond}
 use mathlib.Core.List.{List, [], _∷_}

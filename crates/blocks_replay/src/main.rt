@@ -1,4 +1,4 @@
-// P6: receives one recording, which stands on standard input, cut into blocks in several ways, and compares
+// P7: receives one recording, which stands on standard input, cut into blocks in several ways, and compares
 // each cut with the recording received whole, bit for bit: the counts, every strobe, every output sample and
 // every field of the record at the end. They are equal for every cut (B3).
 //

@@ -97,7 +97,7 @@ fn take_mid(p: Params, h: Hist, t: Track, input: &[f32]) -> Track
     t
 }
 
-// T15: the decision that is kept: Gardner makes none.
+// T26: the decision that is kept: Gardner makes none.
 fn decision(ted: Ted, d_prev: C32, y: C32) -> C32
     ensures { λ r. ⌜ r ≡ loop.decision complex ted «d_prev» y ⌝ }
 {
@@ -117,7 +117,7 @@ fn error(ted: Ted, t: Track, y: C32, d: C32) -> f32
     }
 }
 
-// T9: what the strobe y changes.
+// T26: what the strobe y changes.
 fn strobe(p: Params, t: Track, y: C32) -> Track
     requires { ⌜ GivenStrobe p (t .clock) ⌝ }
     ensures { λ r. ⌜ track r ≡ loop.strobed complex p (track t) y ⌝ }

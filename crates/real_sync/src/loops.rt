@@ -93,7 +93,7 @@ fn take_mid(p: Params, h: Hist, t: Track, input: &[f32]) -> Track
     t
 }
 
-// T15: the decision that is kept: Gardner makes none.
+// T26: the decision that is kept: Gardner makes none.
 fn decision(ted: Ted, d_prev: f32, y: f32) -> f32
     ensures { λ r. ⌜ r ≡ loop.decision real ted «d_prev» y ⌝ }
 {
@@ -113,7 +113,7 @@ fn error(ted: Ted, t: Track, y: f32, d: f32) -> f32
     }
 }
 
-// T9: what the strobe y changes.
+// T26: what the strobe y changes.
 fn strobe(p: Params, t: Track, y: f32) -> Track
     requires { ⌜ GivenStrobe p (t .clock) ⌝ }
     ensures { λ r. ⌜ track r ≡ loop.strobed real p (track t) y ⌝ }

@@ -1,4 +1,4 @@
-// P6: replays recorded answers of the receiver, which stand on standard input: set-ups, resets, phases that
+// P6, P7: replays recorded answers of the receiver, which stand on standard input: set-ups, resets, phases that
 // are set and runs, each field of the record after them, and symbol numbers. Says how many lines were played
 // of each kind, and how many differ from what `receiver`, `sample_calls` and `symbol_numbers` compute.
 //

@@ -80,7 +80,7 @@ pub fn run(r: Receiver, input: &[f32], strobes: &mut [f32], output: &mut [f32]) 
     accepted(r, input, strobes, output)
 }
 
-// R2: one call over a receiver that the caller lends, and that the call replaces by the new one.
+// R2, R15: one call over a receiver that the caller lends, and that the call replaces by the new one.
 pub fn receive(r: &mut Receiver, input: &[f32], strobes: &mut [f32], output: &mut [f32]) -> Answer
     requires { ⌜ Given (now r) ⌝ }
     ensures outcome { λ a. ⌜ outcomeOf a (now (r .exit)) (now (strobes .exit)) (now (output .exit)) ≡ called (now (r .entry)) (now (input .entry)) (now (strobes .entry)) (now (output .entry)) ⌝ }

@@ -46,7 +46,7 @@ unfoldable pub midTaken : {A : Type 0} → Ops A → Params → List A → Track
 midTaken o p l t = let c = t .clock in cond (lacks p t && there l (midIndex c)) (withMid t (valueAt o l (midIndex c) (midPart c))) t
 
 -- ---- the strobe y
--- T15: the decision that is kept; Gardner makes none, and the previous one stays
+-- T26: the decision that is kept; Gardner makes none, and the previous one stays
 unfoldable pub decision : {A : Type 0} → Ops A → Ted → A → A → A
 decision o Gardner d y = d
 decision o MuellerMuller d y = o .decide y

@@ -1,4 +1,4 @@
-//! The carrier loop, under each constellation, and under 8-PSK on signals whose octants are foretold.
+//! The carrier loop, under each constellation, and under 8-PSK on signals whose octants are predicted.
 
 use std::f64::consts::FRAC_1_SQRT_2;
 use std::hint::black_box;
@@ -28,7 +28,7 @@ pub const CONSTELLATIONS: [(CostasConstellation, &str); 3] = [
 
 /// The symbols that a point of the slow signal is held for. With more the original is hardly quicker.
 const HELD: usize = 64;
-/// Signals on which the original's branches under 8-PSK are foretold.
+/// Signals on which the original's branches under 8-PSK are predicted.
 const FORETOLD: [Source; 2] = [
     Source {
         rows: "carrier, 8-PSK, unmodulated",
