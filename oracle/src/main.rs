@@ -52,6 +52,7 @@ usage: oracle play [--reference] SCRIPT   plays a script ('-' reads standard inp
        oracle detector-gain               measures the detector gain of common pulses
        oracle carrier-offset              measures what a carrier that is off does to each timing detector
        oracle pull-in                     measures how quick and how noisy the loops are
+       oracle working-range               measures in which range the values of receive_recording work
        oracle scale [--seed S] [--seconds N | --symbols N | --session K]
                                           compares the ported loops with the original's (feature 'ported')
        oracle speed [--fine | --into FILE]

@@ -1,6 +1,6 @@
 //! Numbers that an engineer chooses a set-up by, measured over the original's `Fallback`: the detector
-//! gain of common pulses, what a carrier that is off does to each timing detector, and how quick and how
-//! noisy a loop is. README.md says how.
+//! gain of common pulses, what a carrier that is off does to each timing detector, how quick and how noisy
+//! a loop is, and in which range one set-up works. README.md says how.
 
 mod angles;
 mod drive;
@@ -11,9 +11,11 @@ mod offsets;
 mod points;
 mod pull_in;
 mod pulses;
+mod settling;
 mod slope;
 mod table;
 mod wave;
+mod working_range;
 
 use crate::kernels::symbol_sync::Ted;
 
@@ -35,6 +37,7 @@ pub fn tables(command: &str) -> Option<String> {
         "detector-gain" => Some(gains::tables()),
         "carrier-offset" => Some(offsets::tables()),
         "pull-in" => Some(pulled_in()),
+        "working-range" => Some(working_range::tables()),
         _ => None,
     }
 }

@@ -70,7 +70,7 @@ fn measured(values: Values, points: Points) -> [String; 3] {
 }
 
 /// The middle one of the counts. Starts that never get there come last.
-fn middle(mut counts: Vec<Option<usize>>) -> Option<usize> {
+pub fn middle(mut counts: Vec<Option<usize>>) -> Option<usize> {
     counts.sort_by_key(|count| count.unwrap_or(usize::MAX));
     counts[counts.len() / 2]
 }

@@ -11,6 +11,9 @@ const FILTER_REACH: usize = 16;
 /// Sums are made in so many lanes, so that they are quick.
 const LANES: usize = 4;
 
+/// The pulse where one stands for all.
+pub const RAISED_COSINE: Pulse = Pulse::RaisedCosine(ROLL_OFF);
+
 /// A complex value, real part first.
 pub type Pair = (f64, f64);
 
@@ -26,10 +29,21 @@ pub struct Wave {
 }
 
 impl Wave {
-    /// Raised-cosine pulses, and samples while there are whole symbols around them. The strobe that a
-    /// fresh loop takes first, at sample 1, is so late, in symbols.
+    /// Raised-cosine pulses.
     pub fn new(random: &mut Random, points: Points, symbols: usize, pace: f64, late: f64) -> Self {
-        let pulse = Pulse::RaisedCosine(ROLL_OFF);
+        Self::shaped(random, RAISED_COSINE, points, symbols, pace, late)
+    }
+
+    /// Such pulses, and samples while there are whole symbols around them. The strobe that a fresh loop
+    /// takes first, at sample 1, is so late, in symbols.
+    pub fn shaped(
+        random: &mut Random,
+        pulse: Pulse,
+        points: Points,
+        symbols: usize,
+        pace: f64,
+        late: f64,
+    ) -> Self {
         let reach = pulse.reach();
         let numbers = points.random(random, symbols + 2 * reach);
         let (re, im): (Vec<f64>, Vec<f64>) = numbers.iter().map(|n| points.point(*n)).unzip();
