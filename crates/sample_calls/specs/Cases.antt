@@ -1,4 +1,4 @@
--- X1 to X12, the starred cases, in one statement. Definitions only.
+-- X1 to X12, X18 and X19, the starred cases, in one statement. Definitions only.
 use Rattle.timing.specs.Cases as timing
 use Rattle.modulate.specs.Cases as modulate
 use Rattle.carrier.specs.Cases as carrier

@@ -1,4 +1,4 @@
--- X1 to X12 hold, all in one theorem. Assumes nothing.
+-- X1 to X12, X18 and X19 hold, all in one theorem. Assumes nothing.
 use Rattle.timing.proofs.Laws.Cases as timing
 use Rattle.modulate.proofs.Laws.Cases as modulate
 use Rattle.carrier.proofs.Laws.Cases as carrier
