@@ -190,7 +190,7 @@ typedef struct trr_timing_values {
     /** Maximum deviation (pull) of the tracked samples per symbol from sps, as a fraction of sps, 0 to
      *  0.05. */
     double max_deviation;
-    /** Detector gain (slope), above 0: the detector's output divided by the timing offset in symbols, for
+    /** Detector gain (slope), above 0: the detector's output divided by how early the strobe is, in symbols, for
      *  small offsets. It grows with the square of the level (Gardner) or with the level (Mueller-Müller).
      *  docs/THEORY.md has a table. */
     double ted_gain;

@@ -17,8 +17,8 @@ pub struct TimingValues {
     /// Maximum deviation (pull) of the tracked samples per symbol from `sps`, as a fraction of `sps`, 0 to
     /// 0.05.
     pub max_deviation: f64,
-    /// Detector gain (slope), above 0: the detector's output divided by the timing offset in symbols, for
-    /// small offsets. It grows with the square of the level (Gardner) or with the level
+    /// Detector gain (slope), above 0: the detector's output divided by how early the strobe is, in symbols,
+    /// for small offsets. It grows with the square of the level (Gardner) or with the level
     /// (Mueller-Müller). docs/THEORY.md has a table.
     pub ted_gain: f64,
 }

@@ -48,7 +48,11 @@ const SIGNALS: [(Pulse, &str); 2] = [
     (RAISED_COSINE, "raised cosine 0.35"),
 ];
 /// The carrier's offsets, in cycles per symbol.
-const OFFSETS: [f64; 8] = [0.0, 0.002, 0.005, 0.01, 0.02, 0.03, 0.04, 0.05];
+const OFFSETS: [f64; 12] = [
+    0.0, 0.002, 0.005, 0.01, 0.02, 0.03, 0.04, 0.042, 0.045, 0.05, 0.055, 0.06,
+];
+/// The noise of a clean recording, 40 dB below a symbol's power.
+const CLEAN: f64 = 0.0001;
 /// The levels.
 const LEVELS: [f64; 8] = [0.1, 0.2, 0.5, 1.0, 2.0, 3.0, 5.0, 10.0];
 /// Samples per symbol as they come.
@@ -87,14 +91,17 @@ fn tables_of(extent: Extent) -> String {
         symbols,
         last,
     } = extent;
-    let even = SIGNALS.map(|(pulse, _)| Starts::new(pulse, PACE as f64, extent));
-    let (offsets, levels, paces) = (by_offset(&even), by_level(&even), by_pace(extent));
+    let even = |power| SIGNALS.map(|(pulse, _)| Starts::new(pulse, PACE as f64, power, extent));
+    let (noisy, clean) = (even(NOISE), even(CLEAN));
+    let (offsets, unnoised) = (by_offset(&noisy), by_offset(&clean));
+    let (levels, paces) = (by_level(&noisy), by_pace(extent));
     format!(
         "How many symbols come before those that are all right: the median and the largest of {starts} starts \
          of\n{symbols} symbols each, and how many starts never get there (a mistake among the last {last}).\n\n\
-         By carrier offset, level {ONE_LEVEL}:\n\n{offsets}\n\
-         By level, {ONE_OFFSET} cycles per symbol:\n\n{levels}\n\
-         By samples per symbol, {ONE_OFFSET} cycles per symbol, level {ONE_LEVEL}:\n\n{paces}"
+         By carrier offset, level {ONE_LEVEL}, 20 dB:\n\n{offsets}\n\
+         By carrier offset, level {ONE_LEVEL}, 40 dB:\n\n{unnoised}\n\
+         By level, {ONE_OFFSET} cycles per symbol, 20 dB:\n\n{levels}\n\
+         By samples per symbol, {ONE_OFFSET} cycles per symbol, level {ONE_LEVEL}, 20 dB:\n\n{paces}"
     )
 }
 
@@ -130,7 +137,7 @@ fn by_level(signals: &[Starts]) -> String {
 fn by_pace(extent: Extent) -> String {
     let mut table = table("samples per symbol");
     for pace in PACES {
-        let signals = SIGNALS.map(|(pulse, _)| Starts::new(pulse, pace, extent));
+        let signals = SIGNALS.map(|(pulse, _)| Starts::new(pulse, pace, NOISE, extent));
         table.row(&row(pace, &signals, ONE_OFFSET, ONE_LEVEL));
     }
     table.text()
@@ -162,13 +169,13 @@ struct Starts {
 }
 
 impl Starts {
-    /// With a pulse, at so many samples per symbol.
-    fn new(pulse: Pulse, pace: f64, extent: Extent) -> Self {
+    /// With a pulse, at so many samples per symbol, in noise of a power beside a symbol's.
+    fn new(pulse: Pulse, pace: f64, power: f64, extent: Extent) -> Self {
         let each = (0..extent.starts).map(|start| {
             let mut random = Random::new(SEED + start as u64);
             let (turn, late) = (random.unit(), random.unit());
             let wave = Wave::shaped(&mut random, pulse, POINTS, extent.symbols, pace, late);
-            let power = NOISE * POINTS.size * POINTS.size;
+            let power = power * POINTS.size * POINTS.size;
             let noise = noise(&mut random, PACE, wave.len(), power);
             Start { wave, turn, noise }
         });
@@ -210,7 +217,7 @@ mod tests {
 
     /// The starts of the sample recording's pulse.
     fn few(pace: f64) -> Starts {
-        Starts::new(Pulse::Cosine, pace, FEW)
+        Starts::new(Pulse::Cosine, pace, NOISE, FEW)
     }
 
     #[test]
