@@ -14,7 +14,7 @@ use Rattle.timing.specs.declared.clock.Clock.{Clock}
 use Rattle.timing.specs.Sample.{Ops}
 use Rattle.timing.specs.Clock.{advanced}
 use Rattle.timing.specs.Given.{Running}
-use Rattle.timing.specs.Loop.{Track, Strobes, lacks, midTaken, strobed, ready, stopped, more, runs, consumed, trackBack}
+use Rattle.timing.specs.Loop.{Track, lacks, midTaken, strobed, ready, stopped, more, runs, consumed, trackBack}
 use Rattle.timing.specs.Run.{Sync, Given, line, ran, TrackRunning}
 use Rattle.timing.proofs.Laws.Strobe.{v-onward, advanced-i}
 use Rattle.timing.proofs.Laws.Clock.{settled-finite, running-more}

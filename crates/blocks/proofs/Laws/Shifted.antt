@@ -19,7 +19,7 @@ use Rattle.timing.specs.declared.clock.Clock.{Clock}
 use Rattle.timing.specs.Sample.{Ops}
 use Rattle.timing.specs.Clock.{midway, midIndex, midPart, newInteg, newOmega, moved, advanced, settled, midLeft}
 use Rattle.timing.specs.Given.{Running}
-use Rattle.timing.specs.Loop.{Track, Strobes, lacks, there, valueAt, withMid, midTaken, decision, errorOf, strobed, ready, more, runs}
+use Rattle.timing.specs.Loop.{Track, lacks, there, valueAt, withMid, midTaken, decision, errorOf, strobed, ready, more, runs}
 use Rattle.timing.specs.Run.{TrackRunning}
 use Rattle.timing.proofs.Laws.Strobe.{advanced-i}
 use Rattle.timing.proofs.Laws.Clock.{settled-finite, kept, running-mid}

@@ -7,7 +7,7 @@ use native.Mathlib.Omega.{arith}
 use mathlib.Core.Bool.{Bool, true, false, not, _&&_, _||_, Bool·beq, cond, or-true, and-true, Bool·not-not}
 use lib.Dec.{T, ltb, eqb, ltb→lt, lt→ltb, eqb→eq, eqb-refl, eqb·suc-zero, eqb·zero-suc}
 use lib.IntN.{ℤ, pos}
-use lib.Ieee.{Float, nan, inf, fin, up, down, below, level, neg, lt, eq, le, ne, isNan}
+use lib.Ieee.{Float, nan, inf, fin, up, down, below, level, neg, lt, eq, isNan}
 use lib.Ieee.Fits.{up-pos, down-pos, eq→eqb}
 use lib.Ieee.Bits.{is-true}
 use lib.Ieee.Positive.{above, first-pos}
@@ -171,17 +171,6 @@ pub like-eq : {s : Bool} {x x' y y' : Float} → Like s x x' → Like s y y' →
 unfolding signed
 like-eq {s = false} {x} {x'} {y} {y'} p q = cc (eq-plain x y, eq-plain x' y', p .same, q .same)
 like-eq {s = true} {x} {x'} {y} {y'} p q = cc (eq-plain x y, eq-plain (neg x') (neg y'), p .same, q .same, eq-negs x' y')
-
-le-is : (x y : Float) → le x y ≡ (lt x y || eq x y)
-unfolding le
-le-is x y = refl
-
-pub like-le : {x x' y y' : Float} → Like false x x' → Like false y y' → le x y ≡ le x' y'
-like-le {x} {x'} {y} {y'} p q = rw (le-is x y, le-is x' y', like-lt p q, like-eq p q)
-
-pub like-ne : {s : Bool} {x x' y y' : Float} → Like s x x' → Like s y y' → ne x y ≡ ne x' y'
-unfolding ne
-like-ne p q = ap not (like-eq p q)
 
 nan-plain : (x : Float) → isNan (plain x) ≡ isNan x
 unfolding isNan plain

@@ -9,7 +9,7 @@ use lib.IntN.{ℤ, pos}
 use lib.Ieee.{Float, nan, inf, fin, Format, up, down, unlike, round, sum, neg, add, sub, mul, div}
 use lib.Ieee.Fits.{up-pos, down-pos}
 use lib.Ieee.Scale.{round-same}
-use Rattle.ieee.specs.Alike.{plain, signed, Like, Alike}
+use Rattle.ieee.specs.Alike.{plain, signed, Like}
 use Rattle.ieee.proofs.Laws.Round.{round-neg, round-zero}
 use Rattle.ieee.proofs.Laws.Algebra.{neg-neg, mul-neg, mul-neg-right, mul-negs, mul-swap, add-swap, sub-is, div-neg}
 
@@ -249,11 +249,6 @@ like-mul-r f {s = false} p q = like-mul f p q
 
 pub like-div : (f : Format) {s : Bool} {x x' : Float} (y : Float) → Like s x x' → Like s (div f x y) (div f x' y)
 like-div f {s} {x} {x'} y p = record { same = cc (div-left f x y, p .same, div-left f (signed s x') y, div-signed f s x' y) }
-
--- a sum is odd: -x + -y is -(x + y), to the sign of a zero
-pub add-odd : (f : Format) (x y : Float) → Alike (add f (neg x) (neg y)) (neg (add f x y))
-unfolding signed
-add-odd f x y = record { same = plain-odd f x y }
 
 -- squares are the same as data: no zero's sign is left
 square-plain : (f : Format) (x : Float) → mul f (plain x) (plain x) ≡ mul f x x

@@ -1,6 +1,6 @@
--- Lists related entry by entry: their lengths, an entry, a map. Assumes nothing.
+-- Lists related entry by entry: their lengths, an entry. Assumes nothing.
 use mathlib.Core.Path.{_≡_, refl, ap}
-use mathlib.Core.List.{List, map}
+use mathlib.Core.List.{List}
 use Prim.Native.Nat.{ℕ, zero, suc}
 use lib.ListN.{length, getD}
 use Rattle.lists.specs.Each.{Each, none, more}
@@ -14,8 +14,3 @@ module _ {A B : Type 0} {R : A → B → Type 0} where
   each-getD i none d = d
   each-getD zero (more r rs) d = r
   each-getD (suc i) (more r rs) d = each-getD i rs d
-
--- functions that take related entries to related ones
-pub each-map : {A B C D : Type 0} {R : A → B → Type 0} {Q : C → D → Type 0} (f : A → C) (g : B → D) → ((a : A) (b : B) → R a b → Q (f a) (g b)) → {l : List A} {m : List B} → Each R l m → Each Q (map f l) (map g m)
-each-map f g h none = none
-each-map f g h (more {a = a} {b = b} r rs) = more (h a b r) (each-map f g h rs)

@@ -13,9 +13,8 @@ use Rattle.ieee.specs.Alike.{sameNumber}
 use Rattle.ieee.proofs.Laws.Algebra.{neg-neg}
 use Rattle.ieee.proofs.Laws.Like.{like-refl, like-trans, like-neg}
 use Rattle.values.specs.declared.sample.C32.{C32}
-use Rattle.lists.specs.Each.{Each, none, more}
+use Rattle.lists.specs.Each.{none, more}
 use Rattle.values.specs.Turn.{turn, turns, turnsAll, AlikeSample, Turned, AllTurned}
-use Rattle.lists.proofs.Laws.Each.{each-map}
 
 -- ---- which turn it is: two make the opposite, and of 1 it makes i
 pub turns-two : (z : C32) → turns 2 z ≡ record { re = neg (z .re); im = neg (z .im) }
@@ -72,17 +71,6 @@ turns-mod n z =
     ap (λ (j : ℕ). turns j z) e ∙ turns-add (n % 4) (4 * (n / 4)) z ∙ ap (turns (n % 4)) (turns-fours (n / 4) z)
 
 -- ---- lists
-pub turnsAll-four : (l : List C32) → turnsAll 4 l ≡ l
-turnsAll-four [] = refl
-turnsAll-four (z ∷ l) = λ i. turns-four z i ∷ turnsAll-four l i
-
-pub turnsAll-add : (j k : ℕ) (l : List C32) → turnsAll (j + k) l ≡ turnsAll j (turnsAll k l)
-turnsAll-add j k [] = refl
-turnsAll-add j k (z ∷ l) = λ i. turns-add j k z i ∷ turnsAll-add j k l i
-
-pub turnsAll-alike : (k : ℕ) {l m : List C32} → Each AlikeSample l m → Each AlikeSample (turnsAll k l) (turnsAll k m)
-turnsAll-alike k h = each-map (turns k) (turns k) (λ v z. alike-turns k) h
-
 -- a list turned exactly is turned as numbers
 pub turnsAll-turned : (k : ℕ) (l : List C32) → AllTurned k l (turnsAll k l)
 turnsAll-turned k [] = none
