@@ -7,7 +7,7 @@ CARGO_ORACLE := cd oracle && cargo
 
 help:
 	@echo 'make run       make the sample recording and receive it (3 to 4 minutes the first time)'
-	@echo 'make test      the gate: prove, refuse, run everything (22 to 26 minutes)'
+	@echo 'make test      the gate: prove, refuse, run everything (21 to 26 minutes)'
 	@echo 'make check     prove every crate and run its programs, without the must-fail edits (5 to 7 minutes)'
 	@echo 'make library   the static library, $(LIBRARY) (4 minutes the first time)'
 	@echo 'make bindings  the tests of the Rust crate, and the examples in C and Rust'
