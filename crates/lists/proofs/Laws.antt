@@ -3,3 +3,4 @@ pub mod Along
 pub mod Each
 pub mod Reading
 pub mod Stores
+pub mod Folds

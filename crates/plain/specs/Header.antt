@@ -1,4 +1,4 @@
--- L4 and E1 to E8: the codes and numbers that bindings/c/train_receiver.h names, which a program in C has compiled
+-- L4, L11 and E1 to E8: the codes and numbers that bindings/c/train_receiver.h names, which a program in C has compiled
 -- into it. Definitions only.
 use mathlib.Core.Path.{_≡_}
 use Rattle.values.specs.declared.error.Refusal.the-variants.{Pace, Width, Damping, Pull, Slope, Gains, Uneven, Odd}
@@ -7,7 +7,8 @@ use Rattle.values.specs.declared.progress.Answer.the-variants.{Done}
 use Rattle.values.specs.Refusal.{numberOf}
 use Rattle.timing.specs.declared.params.Ted.the-variants.{Gardner, MuellerMuller}
 use Rattle.constellations.specs.declared.kinds.CostasConstellation.the-variants.{Bpsk, Qpsk, Psk8}
-use Rattle.plain.specs.Codes.{detectorOf, detectorCode, constellationOf, constellationCode}
+use Rattle.symbol_numbers.specs.declared.symbol.SymbolNumber.the-variants.{None}
+use Rattle.plain.specs.Codes.{detectorOf, detectorCode, constellationOf, constellationCode, symbolCode}
 use Rattle.values.specs.Counts.{countsOf}
 
 pub record Header : Type 0 where
@@ -23,6 +24,8 @@ pub record Header : Type 0 where
   pub qpsk-out : constellationCode Qpsk ≡ 1
   pub psk8-in : constellationOf 2 ≡ Psk8
   pub psk8-out : constellationCode Psk8 ≡ 2
+  -- TRR_NO_SYMBOL
+  pub no-symbol : symbolCode None ≡ 255
   -- TRR_DONE, and the numbers of the refusals in the order of their table
   pub done : (p : Progress) → countsOf (Done p) .number ≡ 0
   pub pace : numberOf Pace ≡ 1

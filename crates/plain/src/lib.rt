@@ -7,3 +7,4 @@ pub use codes::constellation;
 pub use codes::constellation_code;
 pub use codes::detector;
 pub use codes::detector_code;
+pub use codes::symbol_code;

@@ -1,4 +1,4 @@
--- P2: a block of the recording, received call by call. Definitions only.
+-- P8: a block of the recording, received call by call. Definitions only.
 use mathlib.Core.Path.{_≡_}
 use Prim.Native.Nat.{ℕ, zero, suc, _*_, _/_, _%_}
 use mathlib.Core.Bool.{Bool, true, _||_, cond}
@@ -10,8 +10,10 @@ use Rattle.ieee.specs.Notation.{zero₀}
 use Rattle.values.specs.Samples.{samples}
 use Rattle.receiver.specs.declared.record.Receiver.{Receiver}
 use Rattle.sample_calls.specs.Call.{Outcome, called}
+use Rattle.sample_calls.specs.Calls.{outputsOf}
 use Rattle.recordings.specs.declared.content.Content.{Content}
 use Rattle.recordings.specs.Content.{contentWith}
+use Rattle.recordings.specs.None.{noneWith}
 use Rattle.receive_recording.specs.declared.block.Called.{Called}
 use Rattle.receive_recording.specs.declared.block.Received.{Received}
 
@@ -22,27 +24,38 @@ places = replicate 512 zero₀
 abbrev pub callOn : Receiver → List Float → Outcome
 callOn r xs = called r xs places places
 
--- its number, counts and receiver, and whether its symbols were written
-abbrev pub calledOf : Outcome → Bool → Called
-calledOf o w = record { counts = record { number = o .number; consumed = o .consumed; produced = o .produced }; receiver = o .receiver; written = w }
+-- its number, counts and receiver, how many symbols read none with it, and whether its symbols were written
+abbrev pub calledOf : ℕ → Outcome → Bool → Called
+calledOf none o w = record { counts = record { number = o .number; consumed = o .consumed; produced = o .produced }; receiver = o .receiver; none = noneWith none (outputsOf o); written = w }
 
 -- what a block comes to with its last call
 abbrev pub endedBy : Called → Received
-endedBy z = record { number = z .counts .number; receiver = z .receiver; written = z .written }
+endedBy z = record { number = z .counts .number; receiver = z .receiver; none = z .none; written = z .written }
 
 -- nothing is produced, or all is consumed
 abbrev pub final : List Float → Outcome → Bool
 final xs o = eqb (o .produced) 0 || leb (length xs / 2) (o .consumed)
 
 -- calls with what is left of the block, n at most, where all symbols are written
-unfoldable pub received : ℕ → Receiver → List Float → Received
-received zero r xs = record { number = 0; receiver = r; written = true }
-received (suc n) r xs = let o = callOn r xs in cond (final xs o) (endedBy (calledOf o true)) (received n (o .receiver) (drop (2 * o .consumed) xs))
+unfoldable pub received : ℕ → Receiver → ℕ → List Float → Received
+received zero r none xs = record { number = 0; receiver = r; none = none; written = true }
+received (suc n) r none xs =
+    let o = callOn r xs in
+    let z = calledOf none o true in
+    cond (final xs o) (endedBy z) (received n (z .receiver) (z .none) (drop (2 * o .consumed) xs))
 
 -- ---- a recording, received block by block
-unfoldable pub receivedAll : Receiver → List (List Float) → Receiver
-receivedAll r [] = r
-receivedAll r (b ∷ bs) = receivedAll (received (length b) r b .receiver) bs
+-- what the summary tells of: the receiver, and how many symbols read none
+pub record Told : Type 0 where
+  pub receiver : Receiver
+  pub none : ℕ
+
+abbrev pub toldBy : Received → Told
+toldBy z = record { receiver = z .receiver; none = z .none }
+
+unfoldable pub receivedAll : Told → List (List Float) → Told
+receivedAll t [] = t
+receivedAll t (b ∷ bs) = receivedAll (toldBy (received (length b) (t .receiver) (t .none) b)) bs
 
 -- what its samples are, seen block by block behind those before
 unfoldable pub contentAll : Content → List (List Float) → Content

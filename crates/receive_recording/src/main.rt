@@ -1,6 +1,7 @@
-// P1 to P4: receives a recording, which stands on standard input: complex f32 samples, little-endian, real
-// part first. Writes the number of each symbol as a digit, 64 to a line, and at the end how many symbols
-// there are, the pace, and whether the carrier is locked; and a remark if no sample is finite and not silent.
+// P1, P3, P4 and P8: receives a recording, which stands on standard input: complex f32 samples,
+// little-endian, real part first. Writes the number of each symbol as a digit, and `-` for one that reads
+// none, 64 to a line; at the end how many symbols there are, how many of them read none, the pace, and
+// whether the carrier is locked; and a remark if no sample is finite and not silent.
 // What goes wrong is said on error output, and ends the program.
 mod block;
 mod input;
@@ -27,30 +28,34 @@ const PARTS: usize = 4096;
 
 const SAMPLE: usize = 8;
 
-// How far the recording is received: the receiver, what the samples so far are, and whether more are
-// to be read.
+// How far the recording is received: the receiver, how many symbols read none, what the samples so far
+// are, and whether more are to be read.
 struct Sofar {
     receiver: Receiver,
+    none: u64,
     content: Content,
     more: bool,
 }
 
 // Nothing more is to be read.
 fn stopped(s: Sofar) -> Sofar
-    ensures { λ z. ⌜ z ≡ record { receiver = s .receiver; content = s .content; more = false } ⌝ }
+    ensures { λ z. ⌜ z ≡ record { receiver = s .receiver; none = s .none; content = s .content; more = false } ⌝ }
 {
     let receiver = s.receiver;
     let content = s.content;
     Sofar {
         receiver: receiver,
+        none: s.none,
         content: content,
         more: false,
     }
 }
 
 // Writes the summary. It is said if that fails, or if the input ends inside a sample.
-fn conclude(r: Receiver, content: Content, cut: bool) {
-    if !report::summary(r, content) {
+fn conclude(s: Sofar, cut: bool) {
+    let receiver = s.receiver;
+    let content = s.content;
+    if !report::summary(receiver, s.none, content) {
         report::not_written();
         return;
     }
@@ -75,7 +80,7 @@ fn advance(s: Sofar) -> Sofar
     let parts = 2 * recordings::read_samples(&bytes[..n], &mut input);
     let before = s.content;
     let content = recordings::content_with(before, &input[..parts]);
-    let received = block::receive(s.receiver, &input[..parts]);
+    let received = block::receive(s.receiver, s.none, &input[..parts]);
     let receiver = received.receiver;
     if !received.written {
         report::not_written();
@@ -85,14 +90,16 @@ fn advance(s: Sofar) -> Sofar
         report::refused(received.number);
         return stopped(s);
     }
-    if n < BLOCK {
-        conclude(receiver, content, n % SAMPLE > 0);
-    }
-    Sofar {
+    let after = Sofar {
         receiver: receiver,
+        none: received.none,
         content: content,
         more: n == BLOCK,
+    };
+    if n < BLOCK {
+        conclude(after, n % SAMPLE > 0);
     }
+    after
 }
 
 // Receives block after block, up to the end of the input.
@@ -101,6 +108,7 @@ fn receive(r: Receiver)
 {
     let mut sofar = Sofar {
         receiver: r,
+        none: 0,
         content: Content::Empty,
         more: true,
     };

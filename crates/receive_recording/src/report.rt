@@ -39,11 +39,13 @@ fn end_digits(count: u64) -> bool {
     }
 }
 
-// P2: how many symbols there are, the pace, and whether the carrier is locked.
-fn put_summary(well: bool, r: Receiver) -> bool {
+// P8: how many symbols there are, how many of them read none, the pace, and whether the carrier is locked.
+fn put_summary(well: bool, r: Receiver, none: u64) -> bool {
     let count = put_decimal(well, r.count() as u64);
     let symbols = put(count, b" symbols, ");
-    let pace = put_thousandths(symbols, recordings::thousandths(r.sps_estimate()));
+    let absent = put_decimal(symbols, none);
+    let read = put(absent, b" of them none, ");
+    let pace = put_thousandths(read, recordings::thousandths(r.sps_estimate()));
     let carrier = put(pace, b" samples per symbol, carrier ");
     if r.locked() {
         put(carrier, b"locked\n")
@@ -62,9 +64,9 @@ fn put_remark(well: bool, content: Content) -> bool {
 }
 
 // Ends the last line of digits and writes the summary. Answers whether it could be written.
-pub(crate) fn summary(r: Receiver, content: Content) -> bool {
+pub(crate) fn summary(r: Receiver, none: u64, content: Content) -> bool {
     let digits = end_digits(r.count() as u64);
-    put_remark(put_summary(digits, r), content)
+    put_remark(put_summary(digits, r, none), content)
 }
 
 // ---- On error output (P4)

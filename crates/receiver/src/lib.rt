@@ -10,4 +10,5 @@ pub use record::reset;
 pub use record::set_phase;
 pub use record::set_up;
 pub use record::set_up_unnamed;
+pub use symbol_numbers::SymbolNumber;
 pub use symbol_numbers::symbol_number;

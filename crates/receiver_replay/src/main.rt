@@ -24,7 +24,7 @@
 //      runs
 //   t  the next six f32 of the strobe buffer, with the filling behind what was lent
 //   o  the next six f32 of the output, likewise
-//   m  sample, constellation, symbol number
+//   m  sample, constellation, symbol number, or ff where it is none
 //   a, b, k, s, h, y, f   the timing state, as `replay_states` has them
 //   d  loop bandwidth, damping, maximum offset   of the carrier state
 //   g  kp, ki, the limit

@@ -1,4 +1,4 @@
-// Symbol numbers.
+// Symbol numbers (R16), and the code for none (L11).
 use answers::Operation;
 use answers::high;
 use answers::low;
@@ -18,5 +18,5 @@ pub(crate) fn symbol_agrees(op: Operation, known: bool) -> bool {
         im: low(op.x),
     };
     let number = receiver::symbol_number(plain::constellation(op.y as u32), y);
-    words_agree(op.x, op.y, number as u64, op)
+    words_agree(op.x, op.y, plain::symbol_code(number) as u64, op)
 }

@@ -1,16 +1,11 @@
 -- P3: whether there is something to receive in a recording. Definitions only.
 use mathlib.Core.Bool.{Bool, true, false, not, _&&_, _||_, cond}
-use mathlib.Core.List.{List, [], _∷_}
-use lib.Ieee.{eq}
+use mathlib.Core.List.{List, [], _∷_, foldl}
 use lib.Ieee.Scale.{finite}
-use Rattle.ieee.specs.Notation.{zero₀}
 use Rattle.values.specs.declared.sample.C32.{C32}
+use Rattle.symbol_numbers.specs.Symbol.{silent}
 use Rattle.recordings.specs.declared.content.Content.{Content}
 use Rattle.recordings.specs.declared.content.Content.the-variants.{Empty, Blank, Signal}
-
--- both parts are zero
-abbrev pub silent : C32 → Bool
-silent x = eq (x .re) zero₀ && eq (x .im) zero₀
 
 -- both parts are finite
 abbrev pub finiteBoth : C32 → Bool
@@ -31,9 +26,8 @@ abbrev pub seen : Content → C32 → Content
 seen c x = seenBy (carriesAny x) c
 
 -- samples behind those before
-unfoldable pub contentWith : Content → List C32 → Content
-contentWith c [] = c
-contentWith c (x ∷ l) = contentWith (seen c x) l
+abbrev pub contentWith : Content → List C32 → Content
+contentWith c l = foldl seen c l
 
 -- ---- the whole recording
 unfoldable pub anyCarries : List C32 → Bool

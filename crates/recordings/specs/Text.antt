@@ -1,4 +1,4 @@
--- P2: symbols as text: a digit for each, in lines of 64. Definitions only.
+-- P8: symbols as text: a digit for each, or a minus sign, in lines of 64. Definitions only.
 use Prim.Native.Nat.{ℕ, _+_, _%_}
 use mathlib.Core.Bool.{cond}
 use mathlib.Core.List.{List, [], _∷_, map}
@@ -8,11 +8,17 @@ use lib.Ieee.{Float}
 use Rattle.values.specs.declared.sample.C32.{C32}
 use Rattle.values.specs.Samples.{samples}
 use Rattle.constellations.specs.declared.kinds.CostasConstellation.{CostasConstellation}
+use Rattle.symbol_numbers.specs.declared.symbol.SymbolNumber.{SymbolNumber}
+use Rattle.symbol_numbers.specs.declared.symbol.SymbolNumber.the-variants.{Number, None}
 use Rattle.symbol_numbers.specs.Symbol.{symbolOf}
 
--- the digit of a symbol's number, in ASCII
+-- the digit of a symbol's number, in ASCII; 45 is the minus sign
+abbrev pub digitBy : SymbolNumber → ℕ
+digitBy (Number n) = 48 + n
+digitBy None = 45
+
 abbrev pub digitOf : CostasConstellation → C32 → ℕ
-digitOf k y = 48 + symbolOf k y
+digitOf k y = digitBy (symbolOf k y)
 
 -- the digits of the first n samples of an output
 abbrev pub digits : CostasConstellation → List Float → ℕ → List ℕ

@@ -1,4 +1,4 @@
--- A number in thousandths, to the nearest, as the summary has the pace (P2). Definitions only.
+-- A number in thousandths, to the nearest, as the summary has the pace (P8). Definitions only.
 use Prim.Native.Nat.{ℕ}
 use mathlib.Core.Bool.{true, false, _&&_, cond}
 use lib.IntN.{pos}

@@ -1,7 +1,7 @@
 // Whether there is something to receive in a recording.
 use values::C32;
 ghost use mathlib.Core.Path.{_≡_};
-ghost use Rattle.recordings.specs.Content.{silent, finiteBoth, carriesAny, seen, contentWith};
+ghost use Rattle.recordings.specs.Content.{finiteBoth, carriesAny, seen, contentWith};
 ghost use Rattle.values.specs.Samples.{samples};
 
 pub enum Content {
@@ -11,13 +11,6 @@ pub enum Content {
     Blank,
     // Some sample is finite and not silent.
     Signal,
-}
-
-// Whether both parts are zero.
-fn is_silent(x: C32) -> bool
-    ensures { λ r. ⌜ r ≡ silent x ⌝ }
-{
-    x.re == 0.0 && x.im == 0.0
 }
 
 // Whether both parts are finite.
@@ -31,7 +24,7 @@ fn is_finite(x: C32) -> bool
 fn carries(x: C32) -> bool
     ensures { λ r. ⌜ r ≡ carriesAny x ⌝ }
 {
-    is_finite(x) && !is_silent(x)
+    is_finite(x) && !symbol_numbers::is_silent(x)
 }
 
 // What a recording's samples are with one more.

@@ -2,6 +2,7 @@
 use crate::bytes::least;
 use crate::bytes::put;
 use carrier::CostasConstellation;
+use symbol_numbers::SymbolNumber;
 use values::C32;
 ghost use mathlib.Core.Path.{_≡_};
 ghost use Prim.Native.Nat.{min};
@@ -9,14 +10,21 @@ ghost use lib.ListN.{length};
 ghost use lib.Seq.{sets};
 ghost use Rattle.recordings.specs.Text.{digitOf, digits};
 
-// The digit of an output sample's symbol number, in ASCII.
+const ZERO: u8 = b'0';
+
+const NONE: u8 = b'-';
+
+// The digit of an output sample's symbol number, in ASCII; a minus sign where it is none.
 fn digit(constellation: CostasConstellation, y: C32) -> u8
     ensures { λ r. ⌜ r ≡ digitOf constellation y ⌝ }
 {
-    (48 + receiver::symbol_number(constellation, y)) as u8
+    match symbol_numbers::symbol_number(constellation, y) {
+        SymbolNumber::Number(n) => ZERO + (n as u8),
+        SymbolNumber::None => NONE,
+    }
 }
 
-// P2: writes the digits of the first n samples of an output into the front of the text, as far as it has
+// P8: writes the digits of the first n samples of an output into the front of the text, as far as it has
 // places. Answers how many.
 pub fn write_digits(
     constellation: CostasConstellation,

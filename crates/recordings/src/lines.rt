@@ -13,7 +13,7 @@ pub const WIDTH: u64 = 64;
 // The place of the last.
 const LAST: u64 = 63;
 
-// P2: writes the digits into the front of the text, as far as it has places, with a line end behind the last
+// P8: writes the digits into the front of the text, as far as it has places, with a line end behind the last
 // one of each line; `before` digits were written already. Answers how many bytes it wrote.
 pub fn write_lines(before: u64, digits: &[u8], text: &mut [u8]) -> usize
     ensures count { λ r. ⌜ r ≡ min (length (lined before (now (digits .entry)))) (length (now (text .entry))) ⌝ }

@@ -1,1 +1,2 @@
 pub mod Symbol
+pub mod Turned

@@ -18,7 +18,7 @@ ghost use mathlib.Core.Path.{_≡_};
 ghost use Rattle.receiver.specs.Record.{unnamed, opened, restarted, phaseSet};
 ghost use Rattle.sample_calls.specs.Call.{called};
 ghost use Rattle.symbol_numbers.specs.Symbol.{symbolOf};
-ghost use Rattle.plain.specs.Codes.{constellationOf};
+ghost use Rattle.plain.specs.Codes.{constellationOf, symbolCode};
 ghost use Rattle.plain_receiver.specs.Receiver.{valuesOf, receiverOf, recordOf, setUpOf, outcomeOf, Given};
 ghost use Rattle.train_receiver.specs.Readings.{receiverReadings};
 
@@ -112,12 +112,12 @@ pub extern "C" fn trr_receiver_receive(
 
 // ---- Symbol numbers
 
-// The number of an output sample (R11 to R14): the half plane under BPSK, the quadrant under QPSK, the octant
-// under 8-PSK; 0 for silence.
+// L11: the number of an output sample, the half plane under BPSK (R11), the quadrant under QPSK (R13), the
+// octant under 8-PSK (R12); 255 where it is none (R16).
 #[no_mangle]
 pub extern "C" fn trr_symbol_number(constellation: u32, re: f32, im: f32) -> usize
-    ensures { λ r. ⌜ r ≡ symbolOf (constellationOf constellation) (record { re = re; im = im }) ⌝ }
+    ensures { λ r. ⌜ r ≡ symbolCode (symbolOf (constellationOf constellation) (record { re = re; im = im })) ⌝ }
 {
     let y = C32 { re: re, im: im };
-    receiver::symbol_number(plain::constellation(constellation), y)
+    plain::symbol_code(receiver::symbol_number(plain::constellation(constellation), y))
 }

@@ -93,13 +93,16 @@ below-zero x = lt-zero false (pos 0) x ∙ above-class (neg x) ∙ ap isHigh (cl
 at-zero : (x : Float) → eq zero₀ x ≡ isNil (class x)
 at-zero x = eq-zero false (pos 0) x ∙ zero-class x
 
+pub on-zero : (x : Float) → eq x zero₀ ≡ isNil (class x)
+on-zero x = eq-swap x zero₀ ∙ at-zero x
+
 pub from-zero : (x : Float) → le zero₀ x ≡ (isHigh (class x) || isNil (class x))
 unfolding le
 from-zero x = λ j. above-zero x j || at-zero x j
 
 pub to-zero : (x : Float) → le x zero₀ ≡ (isHigh (flip (class x)) || isNil (class x))
 unfolding le
-to-zero x = λ j. below-zero x j || (eq-swap x zero₀ ∙ at-zero x) j
+to-zero x = λ j. below-zero x j || on-zero x j
 
 -- ---- what lies at zero is one, and what lies nowhere is a NaN
 pub nil-alike : (x : Float) → class x ≡ nil → Alike x zero₀

@@ -30,7 +30,7 @@ finite-not-nan (fin s m e) p = tt
 pub not-nan : (x : Float) → ne x x ≡ false → T (not (isNan x))
 not-nan x h = subst (λ (b : Bool). T (not b)) (sym h ∙ differs-is x) tt
 
-only-nan : (x : Float) → isNan x ≡ true → nan ≡ x
+pub only-nan : (x : Float) → isNan x ≡ true → nan ≡ x
 only-nan x h = sym (is-nan x (differs-is x ∙ h))
 
 pub above-nan : (f : Format) (n : ℕ) → ones f * hid f < n % top f → nan ≡ ofBits f n

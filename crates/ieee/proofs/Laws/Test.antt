@@ -41,6 +41,13 @@ and-held {a} {b} e f = f ∙ ap (λ (t : Bool). t && b) (sym e)
 pub and-failed : {a v : Bool} (b : Bool) → a ≡ false → v ≡ a → v ≡ (a && b)
 and-failed {a} b e f = f ∙ e ∙ ap (λ (t : Bool). t && b) (sym e)
 
+-- v is what `a || b` gives: a where it holds, and b where it fails
+pub or-held : {a v : Bool} (b : Bool) → a ≡ true → v ≡ a → v ≡ (a || b)
+or-held b e f = f ∙ e ∙ ap (λ (t : Bool). t || b) (sym e)
+
+pub or-failed : {a b v : Bool} → a ≡ false → v ≡ b → v ≡ (a || b)
+or-failed {b = b} e f = f ∙ ap (λ (t : Bool). t || b) (sym e)
+
 -- a choice by the same test, between related values
 pub cond-related : {A B : Type 0} (R : A → B → Type 0) {p q : Bool} {x y : A} {v w : B} → p ≡ q → R x v → R y w → R (cond p x y) (cond q v w)
 cond-related R {p = true} e h k = rw (← e) h

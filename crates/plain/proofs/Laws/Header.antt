@@ -1,4 +1,4 @@
--- L4 and E1 to E8: the codes and numbers are those of the header. Assumes nothing.
+-- L4, L11 and E1 to E8: the codes and numbers are those of the header. Assumes nothing.
 use mathlib.Core.Path.{refl}
 use Rattle.plain.specs.Header.{Header}
 
@@ -14,6 +14,7 @@ header = record {
   qpsk-out = refl;
   psk8-in = refl;
   psk8-out = refl;
+  no-symbol = refl;
   done = λ p. refl;
   pace = refl;
   width = refl;

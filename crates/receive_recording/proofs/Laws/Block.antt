@@ -27,35 +27,39 @@ unwritten h e off on = go (h .written) off (subst T (ap (λ (q : Received). q .w
     go false e on = on
 
 -- ---- the invariant: the block is received up to place `at`, and `left` calls may follow
-pub record Underway (xs : List Float) (r₀ r : Receiver) (at left : ℕ) : Type 0 where
+pub record Underway (xs : List Float) (r₀ r : Receiver) (none₀ none at left : ℕ) : Type 0 where
   pub within : at ≤ length xs
   pub given : Given r
-  pub shows : received left r (drop at xs) ≡ received (length xs) r₀ xs
+  pub shows : received left r none (drop at xs) ≡ received (length xs) r₀ none₀ xs
 
-pub begins : (xs : List Float) {r : Receiver} → Given r → Underway xs r r 0 (length xs)
-begins xs g = record { within = omega arith; given = g; shows = refl }
+pub begins : (xs : List Float) {r : Receiver} (none : ℕ) → Given r → Underway xs r r none none 0 (length xs)
+begins xs none g = record { within = omega arith; given = g; shows = refl }
 
-module _ {xs : List Float} {r₀ r : Receiver} {at left : ℕ} (u : Underway xs r₀ r at left) where
+module _ {xs : List Float} {r₀ r : Receiver} {none₀ none at left : ℕ} (u : Underway xs r₀ r none₀ none at left) where
   -- no call may follow
-  pub ends-full : left ≤ 0 → record { number = 0; receiver = r; written = true } ≡ received (length xs) r₀ xs
+  pub ends-full : left ≤ 0 → record { number = 0; receiver = r; none = none; written = true } ≡ received (length xs) r₀ none₀ xs
   unfolding received
-  ends-full none = let e : left ≡ 0 = omega arith in ap (λ (n : ℕ). received n r (drop at xs)) (sym e) ∙ u .shows
+  ends-full full = let e : left ≡ 0 = omega arith in ap (λ (n : ℕ). received n r none (drop at xs)) (sym e) ∙ u .shows
 
   -- ---- a call with what is left, as the code lends it
-  module _ (more : 0 < left) {h : Called} (e : h ≡ calledOf (callOn r (take (length xs - at) (drop at xs))) (h .written)) (put : not (h .written) ≡ false) where
+  module _ (more : 0 < left) {h : Called} (e : h ≡ calledOf none (callOn r (take (length xs - at) (drop at xs))) (h .written)) (put : not (h .written) ≡ false) where
     o : Outcome
     o = callOn r (drop at xs)
 
-    same : h ≡ calledOf o true
+    same : h ≡ calledOf none o true
     unfolding o
-    same = e ∙ (λ j. calledOf (callOn r (take-all (length xs - at) (drop at xs) (rw length-drop (omega arith)) j)) (not-false (h .written) put j))
+    same = e ∙ (λ j. calledOf none (callOn r (take-all (length xs - at) (drop at xs) (rw length-drop (omega arith)) j)) (not-false (h .written) put j))
 
-    turn : received left r (drop at xs) ≡ cond (final (drop at xs) o) (endedBy (calledOf o true)) (received (left - 1) (o .receiver) (drop (2 * o .consumed) (drop at xs)))
+    -- it ends the block, or calls with what it leaves follow
+    abbrev next : Bool → Received
+    next last = let z = calledOf none o true in cond last (endedBy z) (received (left - 1) (z .receiver) (z .none) (drop (2 * o .consumed) (drop at xs)))
+
+    turn : received left r none (drop at xs) ≡ next (final (drop at xs) o)
     unfolding received o
-    turn = let n : left ≡ suc (left - 1) = omega arith in ap (λ (n : ℕ). received n r (drop at xs)) n
+    turn = let n : left ≡ suc (left - 1) = omega arith in ap (λ (n : ℕ). received n r none (drop at xs)) n
 
-    by : {b : Bool} → final (drop at xs) o ≡ b → cond b (endedBy (calledOf o true)) (received (left - 1) (o .receiver) (drop (2 * o .consumed) (drop at xs))) ≡ received (length xs) r₀ xs
-    by {b} t = ap (λ (c : Bool). cond c (endedBy (calledOf o true)) (received (left - 1) (o .receiver) (drop (2 * o .consumed) (drop at xs)))) (sym t) ∙ sym turn ∙ u .shows
+    by : {b : Bool} → final (drop at xs) o ≡ b → next b ≡ received (length xs) r₀ none₀ xs
+    by t = ap next (sym t) ∙ sym turn ∙ u .shows
 
     half : (length xs - at) / 2 ≡ length (drop at xs) / 2
     half = ap (λ (n : ℕ). n / 2) (sym (length-drop at xs))
@@ -67,7 +71,7 @@ module _ {xs : List Float} {r₀ r : Receiver} {at left : ℕ} (u : Underway xs 
     consumed = ap (λ (z : Called). z .counts .consumed) same
 
     -- nothing is produced
-    pub ends-silent : h .counts .produced ≡ 0 → endedBy h ≡ received (length xs) r₀ xs
+    pub ends-silent : h .counts .produced ≡ 0 → endedBy h ≡ received (length xs) r₀ none₀ xs
     ends-silent z = ap endedBy same ∙ by (ap (λ (b : Bool). b || leb (length (drop at xs) / 2) (o .consumed)) (eq-eqb (o .produced) 0 (sym produced ∙ z)))
 
     module _ (some : h .counts .produced ≡ 0 → ⊥) where
@@ -75,17 +79,17 @@ module _ {xs : List Float} {r₀ r : Receiver} {at left : ℕ} (u : Underway xs 
       by-consumed t = (λ j. ne-eqb (o .produced) 0 (λ z. some (produced ∙ z)) j || t j)
 
       -- all is consumed
-      pub ends-whole : (length xs - at) / 2 ≤ h .counts .consumed → endedBy h ≡ received (length xs) r₀ xs
+      pub ends-whole : (length xs - at) / 2 ≤ h .counts .consumed → endedBy h ≡ received (length xs) r₀ none₀ xs
       ends-whole z = ap endedBy same ∙ by (by-consumed (le-leb (length (drop at xs) / 2) (o .consumed) (let a = half in let b = consumed in omega arith)))
 
       -- the next call takes what is left
-      pub goes-on : h .counts .consumed < (length xs - at) / 2 → Given (h .receiver) → Underway xs r₀ (h .receiver) (at + 2 * h .counts .consumed) (left - 1)
+      pub goes-on : h .counts .consumed < (length xs - at) / 2 → Given (h .receiver) → Underway xs r₀ (h .receiver) none₀ (h .none) (at + 2 * h .counts .consumed) (left - 1)
       goes-on z g =
           record {
             within = let a = u .within in omega arith;
             given = g;
             shows =
-                (λ j. received (left - 1) (same j .receiver) (drop (at + 2 * same j .counts .consumed) xs))
-                ∙ ap (received (left - 1) (o .receiver)) (sym (drop-drop (2 * o .consumed) at xs))
+                (λ j. received (left - 1) (same j .receiver) (same j .none) (drop (at + 2 * same j .counts .consumed) xs))
+                ∙ ap (received (left - 1) (o .receiver) (calledOf none o true .none)) (sym (drop-drop (2 * o .consumed) at xs))
                 ∙ by (by-consumed (lt-leb (length (drop at xs) / 2) (o .consumed) (let a = half in let b = consumed in omega arith)));
           }

@@ -58,7 +58,10 @@ conclude-requires : tie.Need-conclude-requires
 conclude-requires c κs = tt
 
 returns-4 : tie.Need-returns-4
-returns-4 c = c .before .before .before .before .before .before .receive .ensures .1
+returns-4 c = c .before .before .before .before .before .before .before .receive .ensures .1
+
+returns-5 : tie.Need-returns-5
+returns-5 c = c .before .before .before .before .before .before .receive .ensures .1
 
 pub advance-spec : {M : Type 1} → statement M
 advance-spec =
@@ -67,4 +70,4 @@ advance-spec =
     (λ c. search needs) (λ c. search needs) read-samples-requires (λ c. search needs) (λ c. search needs)
     slice-aggregate-content-with content-with-requires (λ c. search needs) slice-aggregate-receive
     receive-requires not-written-requires stopped-requires-2 returns-2 refused-requires stopped-requires-3
-    returns-3 conclude-requires returns-4)
+    returns-3 conclude-requires returns-4 returns-5)

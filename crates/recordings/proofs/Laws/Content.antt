@@ -1,44 +1,36 @@
--- What a recording's samples are: one more of them, and all of them; that the blocks do not show in which they are
--- seen; and that seen one by one they are what they are as a whole. Assumes nothing.
+-- P3: there is nothing to receive in a sample that is silent or not finite; and what a recording's samples are, seen
+-- one by one, is what they are as a whole. Assumes nothing.
 use mathlib.Core.Path.{_≡_, refl, sym, ap, _∙_}
-use mathlib.Core.Bool.{Bool, true, false, _||_, cond}
-use mathlib.Core.List.{List, [], _∷_, _++_}
-use Prim.Native.Nat.{ℕ, suc, _+_, _/_, _≤_, _<_}
-use native.Mathlib.Numerals.{add-one}
-use native.Mathlib.Omega.{arith}
-use lib.ListN.{length, getD, drop, drop-of-length-le}
-use lib.Seq.{drop-cons}
-use lib.Ieee.{Float}
+use mathlib.Core.Bool.{Bool, true, false, not, _&&_, _||_, cond}
+use mathlib.Core.List.{List, [], _∷_}
+use lib.Ieee.{eq}
+use Rattle.ieee.specs.Notation.{zero₀}
+use Rattle.ieee.proofs.Laws.Like.{like-refl}
+use Rattle.ieee.proofs.Laws.Compare.{like-eq}
 use Rattle.values.specs.declared.sample.C32.{C32}
-use Rattle.values.specs.Samples.{silence, samples}
-use Rattle.values.proofs.Laws.Samples.{length-samples}
+use Rattle.values.specs.Samples.{silence}
+use Rattle.values.specs.Turn.{AlikeSample}
+use Rattle.symbol_numbers.specs.Symbol.{silent}
 use Rattle.recordings.specs.declared.content.Content.{Content}
 use Rattle.recordings.specs.declared.content.Content.the-variants.{Empty, Blank, Signal}
-use Rattle.recordings.specs.Content.{carriesAny, seenBy, seen, contentWith, anyCarries, contentOf}
+use Rattle.recordings.specs.Content.{finiteBoth, carriesAny, seenBy, seen, contentWith, anyCarries, contentOf}
 
-module _ (xs : List Float) (k : ℕ) where
-  -- the loop goes a sample on
-  pub one-more : k < length xs / 2 → {x : C32} → x ≡ getD (samples xs) k silence → (c : Content) {d : Content} → d ≡ seen c x → {all : Content} → contentWith c (drop k (samples xs)) ≡ all → contentWith d (drop (k + 1) (samples xs)) ≡ all
-  unfolding contentWith
-  one-more more at c next shows =
-      let inside : k < length (samples xs) = (let n = length-samples xs in omega arith) in
-      (λ j. contentWith (next j) (drop (add-one k j) (samples xs)))
-      ∙ ap (λ (y : C32). contentWith (seen c y) (drop (suc k) (samples xs))) at
-      ∙ ap (contentWith c) (sym (drop-cons (samples xs) k silence inside))
-      ∙ shows
+-- ---- a sample
+both-false : (a : Bool) → (a && false) ≡ false
+both-false true = refl
+both-false false = refl
 
-  -- it ends behind the last one
-  pub all-seen : length xs / 2 ≤ k → {c all : Content} → contentWith c (drop k (samples xs)) ≡ all → c ≡ all
-  unfolding contentWith
-  all-seen past {c} shows = sym (ap (contentWith c) (drop-of-length-le (samples xs) {i = k} (let n = length-samples xs in omega arith))) ∙ shows
+pub silent-blank : {x : C32} → AlikeSample x silence → carriesAny x ≡ false
+unfolding eq
+silent-blank {x} p =
+    let z = like-refl zero₀ in
+    let hush : silent x ≡ true = λ j. like-eq (p .real) z j && like-eq (p .imag) z j in
+    ap (λ (b : Bool). finiteBoth x && not b) hush ∙ both-false (finiteBoth x)
 
--- the blocks that a recording is read in do not show
-pub content-append : (c : Content) (l m : List C32) → contentWith c (l ++ m) ≡ contentWith (contentWith c l) m
-unfolding contentWith
-content-append c [] m = refl
-content-append c (x ∷ l) m = content-append (seen c x) l m
+pub infinite-blank : (x : C32) → finiteBoth x ≡ false → carriesAny x ≡ false
+infinite-blank x h = ap (λ (b : Bool). b && not (silent x)) h
 
--- ---- what the samples are, seen one by one, is what they are as a whole
+-- ---- a recording
 seen-twice : (a b : Bool) (c : Content) → seenBy b (seenBy a c) ≡ seenBy (a || b) c
 seen-twice true true c = refl
 seen-twice true false c = refl
@@ -48,7 +40,7 @@ seen-twice false false Blank = refl
 seen-twice false false Signal = refl
 
 content-some : (c : Content) (x : C32) (l : List C32) → contentWith c (x ∷ l) ≡ seenBy (anyCarries (x ∷ l)) c
-unfolding contentWith anyCarries
+unfolding anyCarries
 content-some c x [] = sym (seen-nothing (carriesAny x) c)
   where
     seen-nothing : (b : Bool) (c : Content) → seenBy (b || false) c ≡ seenBy b c
@@ -57,7 +49,6 @@ content-some c x [] = sym (seen-nothing (carriesAny x) c)
 content-some c x (y ∷ l) = content-some (seen c x) y l ∙ seen-twice (carriesAny x) (anyCarries (y ∷ l)) c
 
 pub content-exactly : (l : List C32) → contentWith Empty l ≡ contentOf l
-unfolding contentWith
 content-exactly [] = refl
 content-exactly (x ∷ l) = content-some Empty x l ∙ as-picked (anyCarries (x ∷ l))
   where

@@ -13,13 +13,13 @@ use Rattle.receive_recording.proofs.block.receive.Statement.{statement}
 use Rattle.receive_recording.proofs.block.receive.Tie as tie
 
 abbrev Inv-loop : tie.InvT-loop
-Inv-loop input receiver₀ at₀ left₀ receiver at left = Underway input receiver₀ receiver at left
+Inv-loop before input receiver₀ none₀ at₀ left₀ receiver none at left = Underway input receiver₀ receiver none₀ none at left
 
 abbrev μ-loop : tie.MeasureT-loop
-μ-loop input receiver₀ at₀ left₀ receiver at left = left
+μ-loop before input receiver₀ none₀ at₀ left₀ receiver none at left = left
 
 loop-holds : tie.Need-loop-holds Inv-loop μ-loop
-loop-holds c = begins (c .before .args .input .now) (c .before .pre)
+loop-holds c = begins (c .before .args .input .now) (c .before .args .before) (c .before .pre)
 
 mul-call : tie.Need-mul-call Inv-loop μ-loop
 mul-call c = omega arith

@@ -2,7 +2,7 @@
 use mathlib.Core.Path.{sym, ap, _∙_}
 use mathlib.Core.Bool.{Bool, not, _&&_}
 use borrow.Author.Needs.{needs}
-use Rattle.recordings.specs.Content.{silent}
+use Rattle.symbol_numbers.specs.Symbol.{silent}
 use Rattle.recordings.proofs.content.carries.Statement.{statement}
 use Rattle.recordings.proofs.content.carries.Tie as tie
 

@@ -5,9 +5,10 @@ use Prim.Native.Nat.{_/_, _-_, _≤_}
 use native.Mathlib.Omega.{arith}
 use lib.ListN.{length, drop}
 use borrow.Author.Needs.{needs}
-use Rattle.values.specs.Samples.{samples}
-use Rattle.recordings.specs.Content.{contentWith}
-use Rattle.recordings.proofs.Laws.Content.{one-more, all-seen}
+use Rattle.values.specs.Samples.{silence, samples}
+use Rattle.values.proofs.Laws.Samples.{length-samples}
+use Rattle.lists.proofs.Laws.Folds.{folds-on, folded-all}
+use Rattle.recordings.specs.Content.{seen, contentWith}
 use Rattle.recordings.proofs.content.content_with.Statement.{statement}
 use Rattle.recordings.proofs.content.content_with.Tie as tie
 
@@ -30,10 +31,10 @@ loop-again : tie.Need-loop-again Inv-loop μ-loop
 loop-again c =
     let t = c .before .before .before .loop in
     let input = c .before .before .before .before .before .args .input .now in
-    (omega arith, one-more input (t .k) (c .before .before .loop-test .taken) (c .before .sample-at .ensures) (t .content) (c .see .ensures) (t .inv .1))
+    (omega arith, folds-on seen (samples input) silence (t .k) (omega (arith, length-samples input)) (c .before .sample-at .ensures) (t .content) (c .see .ensures) (t .inv .1))
 
 returns : tie.Need-returns Inv-loop μ-loop
-returns c = let input = c .before .before .before .args .input .now in all-seen input (c .before .loop .k) (c .loop-test .left) (c .before .loop .inv .1)
+returns c = let input = c .before .before .before .args .input .now in folded-all seen (samples input) silence (c .before .loop .k) (omega (arith, length-samples input)) (c .before .loop .inv .1)
 
 pub content-with-spec : {M : Type 1} → statement M
 content-with-spec =
