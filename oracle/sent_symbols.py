@@ -5,9 +5,9 @@
     target/bin/make_recording | python3 oracle/sent_symbols.py turn 1 | target/bin/receive_recording
 
 The first reads digits and a summary on standard input and says how many symbols are as sent, how many quarter
-turns they are round, and which are not as sent; the status is 1 if most are not. The second copies a recording
-(complex f32, little-endian) from standard input to standard output, each sample turned by so many quarters. Labels
-are those of docs/SPECIFICATION.md.
+turns they are round, and which are not as sent (a `-` never is); the status is 1 if most are not. The second copies
+a recording (complex f32, little-endian) from standard input to standard output, each sample turned by so many
+quarters. Labels are those of docs/SPECIFICATION.md.
 """
 
 import sys
@@ -44,7 +44,7 @@ def judged(digits):
 def compare():
     """Reads digits and says how they compare."""
     lines = sys.stdin.buffer.read().decode("latin-1").split("\n")
-    digits = [int(digit) for line in lines if line and not line.strip("0123") for digit in line]
+    digits = ["0123".find(digit) for line in lines if line and not line.strip("0123-") for digit in line]
     if not digits:
         sys.exit("sent_symbols: no digits on standard input; it reads what receive_recording writes")
     turn, count, wrong = judged(digits)

@@ -23,7 +23,7 @@ mod set_ups;
 mod symbols;
 mod turned;
 
-use receiver::{Answer, Receiver, Values, samples, symbol_number};
+use receiver::{Answer, Receiver, Values, samples, symbol_code};
 
 /// The random numbers are the same every time.
 const SEED: u64 = 20_261_118;
@@ -202,10 +202,10 @@ impl<K: Kernel> Recorder<K> {
         }
     }
 
-    /// The number of a symbol.
+    /// The number of a symbol, or the code for none.
     fn symbol(&mut self, points: CostasConstellation, y: C32) {
         let code = u64::from(constellation_code(points));
-        let number = symbol_number(points, y);
+        let number = symbol_code(points, y);
         self.script.line('m', pair(y.re, y.im), code, number);
     }
 }

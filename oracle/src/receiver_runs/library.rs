@@ -24,6 +24,19 @@ const SAMPLES: usize = 3;
 const PLACES: usize = 2;
 /// The f32 of input, strobe buffer and output of calls that are refused: odd, uneven, and both.
 const REFUSED: [[usize; 3]; 3] = [[5, 4, 4], [6, 4, 2], [6, 3, 4]];
+/// Samples that read none, and next to each one that does not.
+const READ: [(f32, f32); 10] = [
+    (0.0, 0.0),
+    (0.0, -1.0),
+    (-0.0, 0.0),
+    (-0.0, 1.0),
+    (0.0, -0.0),
+    (-1.0, -0.0),
+    (f32::NAN, 0.0),
+    (f32::INFINITY, 0.0),
+    (-1.0, f32::NAN),
+    (-1.0, -f32::INFINITY),
+];
 /// The values do not turn: the second receiver is for another replay.
 const STRAIGHT: Turns = Turns {
     samples: 0,
@@ -33,6 +46,9 @@ const STRAIGHT: Turns = Turns {
 pub fn record<K: Kernel>(recorder: &mut Recorder<K>, random: &mut Random) {
     set_ups::both(recorder, random);
     for points in CONSTELLATIONS {
+        for (re, im) in READ {
+            recorder.symbol(points, C32::new(re, im));
+        }
         for detector in DETECTORS {
             let timing = runs::Values {
                 sps: 2.3,

@@ -153,11 +153,23 @@ pub fn octant(y: C32) -> u64 {
     place.expect("one of the eight points") as u64
 }
 
-/// The number of a symbol (R11 to R14).
-pub fn symbol_number(points: CostasConstellation, y: C32) -> u64 {
-    match points {
+/// What stands in a line or an answer for a symbol that reads none (L11).
+pub const NO_SYMBOL: u64 = 255;
+
+/// The number of a symbol (R11 to R13). None for silence, and where a part is not a number (R16).
+pub fn symbol_number(points: CostasConstellation, y: C32) -> Option<u64> {
+    let silent = y.re.abs() <= 0.0 && y.im.abs() <= 0.0;
+    if silent || y.re.is_nan() || y.im.is_nan() {
+        return None;
+    }
+    Some(match points {
         CostasConstellation::Bpsk => u64::from(y.re < 0.0 || (y.re == 0.0 && y.im < 0.0)),
         CostasConstellation::Qpsk => octant(y) / 2,
         _ => octant(y),
-    }
+    })
+}
+
+/// The number, or the code for none (L11).
+pub fn symbol_code(points: CostasConstellation, y: C32) -> u64 {
+    symbol_number(points, y).unwrap_or(NO_SYMBOL)
 }

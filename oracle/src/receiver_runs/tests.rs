@@ -5,7 +5,7 @@
 use std::collections::HashSet;
 use std::f64::consts::TAU;
 
-use super::receiver::{Receiver, Values, octant};
+use super::receiver::{Receiver, Values, octant, symbol_number};
 use super::{CONSTELLATIONS, Turns, exported, recorded};
 use crate::bits::SENTINEL;
 use crate::kernels::costas::CostasConstellation;
@@ -207,8 +207,57 @@ fn every_symbol_number_is_met() {
     let all = [(0, 2), (1, 4), (2, 8)];
     let all = all
         .iter()
-        .flat_map(|&(points, top)| (0..top).map(move |n| (points, n)));
+        .flat_map(|&(points, top)| (0..top).chain([255]).map(move |n| (points, n)));
     assert_eq!(met, all.collect());
+}
+
+#[test]
+fn silence_and_nan_read_none_and_nothing_else_does() {
+    let (zeros, nan) = ([0.0, -0.0], f32::NAN);
+    let others = [1.0, -1.0, f32::from_bits(1), f32::INFINITY, -f32::INFINITY];
+    let none = |re: f32, im: f32| {
+        let read = CONSTELLATIONS.map(|points| symbol_number(points, C32::new(re, im)).is_none());
+        assert!(read == [read[0]; 3], "{re} {im}");
+        read[0]
+    };
+    for zero in zeros {
+        assert!(zeros.iter().all(|&other| none(zero, other)));
+    }
+    for part in others.into_iter().chain(zeros).chain([nan]) {
+        assert!(none(part, nan) && none(nan, part));
+    }
+    for part in others {
+        assert!(
+            others
+                .iter()
+                .chain(&zeros)
+                .all(|&other| !none(part, other) && !none(other, part))
+        );
+    }
+}
+
+/// After j turns of a sample none stays none, and a number grows (Q12).
+#[test]
+fn a_turned_sample_reads_as_the_turned_number() {
+    for line in lines_of("m") {
+        let points = CONSTELLATIONS[line.2 as usize];
+        let y = C32::new(
+            f32::from_bits((line.1 >> 32) as u32),
+            f32::from_bits(line.1 as u32),
+        );
+        let turned = [
+            C32::new(-y.im, y.re),
+            C32::new(-y.re, -y.im),
+            C32::new(y.im, -y.re),
+        ];
+        for (turns, z) in (1..).zip(turned) {
+            let (on, top) = [(turns / 2, 2), (turns, 4), (2 * turns, 8)][line.2 as usize];
+            let expected = symbol_number(points, y).map(|number| (number + on) % top);
+            if line.2 > 0 || turns == 2 {
+                assert_eq!(symbol_number(points, z), expected, "{y:?} {turns}");
+            }
+        }
+    }
 }
 
 #[test]
@@ -220,6 +269,13 @@ fn the_lines_for_the_library_are_short_and_have_every_code_and_number() {
     assert_eq!(numbers, (1..7).collect());
     let codes: HashSet<u64> = accepted.iter().map(|line| line.3 % 16).collect();
     assert_eq!(codes, (0..6).collect());
+    for points in 0..3 {
+        let read = lines
+            .iter()
+            .filter(|line| line.0 == 'm' && line.2 == points);
+        let read: HashSet<u64> = read.map(|line| line.3).collect();
+        assert!(read.contains(&255) && read.len() > 2);
+    }
     let runs: Vec<&Line> = lines.iter().filter(|line| line.0 == 'r').collect();
     assert!(runs.iter().all(|run| {
         let [input, strobes, output] = lengths(run);

@@ -56,6 +56,9 @@ pub struct Counts {
     paces: [u64; PACES.len()],
     /// Calls after which something was so.
     left: BTreeMap<&'static str, u64>,
+    /// Samples whose symbol numbers were compared, and those of them that read none.
+    pub read: u64,
+    pub none: u64,
 }
 
 impl Counts {
@@ -134,6 +137,8 @@ impl Counts {
         self.values += other.values;
         self.not_finite += other.not_finite;
         self.with_reference += other.with_reference;
+        self.read += other.read;
+        self.none += other.none;
         add_all(&mut self.zero_signs, &other.zero_signs);
         add_all(&mut self.nan_patterns, &other.nan_patterns);
         add_all(&mut self.numbers, &other.numbers);
@@ -189,6 +194,9 @@ pub fn table(rows: &[Counts]) -> String {
     for (pace, count) in PACES.into_iter().zip(all.paces) {
         writeln!(text, "accepted set-ups with sps {pace}: {count}").expect("text can be added to");
     }
+    let (read, none) = (all.read, all.none);
+    writeln!(text, "symbol numbers compared: {read}, {none} of them none")
+        .expect("text can be added to");
     text
 }
 

@@ -12,6 +12,7 @@ use super::sheet::{Sheet, Slate};
 use super::write::answer;
 use crate::compare::tally::likeness;
 use crate::fields::Value;
+use crate::receiver_runs::receiver::NO_SYMBOL;
 use crate::types::C32;
 use crate::{Fallback, Reference};
 
@@ -180,6 +181,8 @@ fn buffers(name: &'static str, ours: &[f32], theirs: &[f32], counts: &mut Counts
 
 fn symbols(ours: &[u64], theirs: &[u64], counts: &mut Counts) -> Option<Spot> {
     counts.values += ours.len() as u64;
+    counts.read += theirs.len() as u64;
+    counts.none += theirs.iter().filter(|number| **number == NO_SYMBOL).count() as u64;
     let at = ours.iter().zip(theirs).position(|(a, b)| a != b);
     let Some(at) = at else {
         return counted("symbol numbers", ours.len(), theirs.len());

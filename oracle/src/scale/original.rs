@@ -11,7 +11,7 @@ use crate::fields::{constellation_code, ted_code};
 use crate::kernels::costas::{CostasConstellation, CostasState};
 use crate::kernels::symbol_sync::{SymbolSync, SymbolSyncState, Ted};
 use crate::play::Kernel;
-use crate::receiver_runs::receiver::{self, Answer, Values, refused, symbol_number};
+use crate::receiver_runs::receiver::{self, Answer, Values, refused, symbol_code};
 use crate::types::C32;
 use crate::{Fallback, Reference, carrier_runs, refusal, runs};
 
@@ -227,6 +227,6 @@ impl<K: Source> Machine for Receiver<K> {
     fn symbols(&self, samples: &[f32], numbers: &mut Vec<u64>) {
         let points = self.receiver.carrier.constellation();
         let pairs = samples.chunks_exact(C32::COUNT);
-        numbers.extend(pairs.map(|two| symbol_number(points, C32::new(two[0], two[1]))));
+        numbers.extend(pairs.map(|two| symbol_code(points, C32::new(two[0], two[1]))));
     }
 }

@@ -41,8 +41,9 @@ pub fn judge(
         let mut turns = vec![0; count];
         for (time, output) in times.iter().zip(outputs) {
             let sent = wave.numbers[time.round() as usize];
-            let heard = symbol_number(constellation, *output) as usize;
-            turns[(heard + count - sent) % count] += 1;
+            if let Some(heard) = symbol_number(constellation, *output) {
+                turns[(heard as usize + count - sent) % count] += 1;
+            }
         }
         right += turns.into_iter().max().unwrap_or_default();
     }

@@ -77,7 +77,7 @@ mod tests {
                 let (re, im) = points.point(number);
                 let heard = symbol_number(constellation, C32::new(re as f32, im as f32));
                 // The second of two has a part beside 0 that is not exactly 0.
-                assert_eq!(heard, number as u64, "{}", points.name);
+                assert_eq!(heard, Some(number as u64), "{}", points.name);
             }
         }
     }

@@ -14,16 +14,16 @@ const POINTS: usize = 4;
 pub struct Heard {
     /// The symbol that was sent at the nearest instant.
     pub sent: usize,
-    /// By how many quarters it is turned.
-    pub turn: usize,
+    /// By how many quarters it is turned. None if it reads none.
+    pub turn: Option<usize>,
 }
 
 /// What QPSK was heard as.
 pub fn heard(wave: &Wave, strobes: &[Strobe], outputs: &[C32]) -> Vec<Heard> {
     let one = |(strobe, output): (&Strobe, &C32)| {
         let sent = wave.time(strobe.place).round() as usize;
-        let number = symbol_number(CostasConstellation::Qpsk, *output) as usize;
-        let turn = (number + POINTS - wave.numbers[sent]) % POINTS;
+        let number = symbol_number(CostasConstellation::Qpsk, *output);
+        let turn = number.map(|number| (number as usize + POINTS - wave.numbers[sent]) % POINTS);
         Heard { sent, turn }
     };
     strobes.iter().zip(outputs).map(one).collect()
@@ -36,7 +36,7 @@ pub fn settled(heard: &[Heard], last: usize) -> Option<usize> {
     let turn = usual_turn(&heard[late..]);
     let goes_on = |at: usize| {
         let next = heard.get(at + 1);
-        heard[at].turn == turn && next.is_none_or(|next| next.sent == heard[at].sent + 1)
+        heard[at].turn == Some(turn) && next.is_none_or(|next| next.sent == heard[at].sent + 1)
     };
     let mistake = (0..heard.len()).rposition(|at| !goes_on(at));
     let first = mistake.map_or(0, |at| at + 1);
@@ -45,7 +45,12 @@ pub fn settled(heard: &[Heard], last: usize) -> Option<usize> {
 
 /// The turn that most symbols have.
 fn usual_turn(heard: &[Heard]) -> usize {
-    let with = |turn: usize| heard.iter().filter(|heard| heard.turn == turn).count();
+    let with = |turn: usize| {
+        heard
+            .iter()
+            .filter(|heard| heard.turn == Some(turn))
+            .count()
+    };
     let most = (0..POINTS).max_by_key(|turn| with(*turn));
     most.unwrap_or_default()
 }
@@ -56,7 +61,8 @@ mod tests {
 
     /// Ten symbols from one on, all of them turned once.
     fn ten() -> Vec<Heard> {
-        (7..17).map(|sent| Heard { sent, turn: 1 }).collect()
+        let turn = Some(1);
+        (7..17).map(|sent| Heard { sent, turn }).collect()
     }
 
     #[test]
@@ -67,8 +73,8 @@ mod tests {
     #[test]
     fn the_symbols_behind_the_last_wrong_one_count() {
         let mut heard = ten();
-        heard[1].turn = 3;
-        heard[3].turn = 0;
+        heard[1].turn = Some(3);
+        heard[3].turn = None;
         assert_eq!(settled(&heard, 4), Some(4));
         assert_eq!(settled(&heard, 7), None);
     }

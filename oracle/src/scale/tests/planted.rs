@@ -194,6 +194,26 @@ fn a_symbol_s_number() {
     assert!(text.contains("# symbol number 0: ours"), "{text}");
 }
 
+/// Has the number 0 for silence.
+fn silence_read(_: &Op, slate: &mut Slate, _: &mut usize) {
+    let places = slate.output.chunks_exact(2).take(produced(slate));
+    let at = places.into_iter().position(|y| y == [0.0, 0.0]);
+    if let Some(at) = at.filter(|at| *at < slate.symbols.len()) {
+        slate.symbols[at] = 0;
+    }
+}
+
+#[test]
+fn silence_that_has_a_number() {
+    let found = shrunk(|kind| planted(kind, silence_read));
+    let text = found.text();
+    assert_eq!(calls(&found).len(), 1, "{text}");
+    assert!(
+        text.contains("# symbol number 0: ours 0, Fallback 255"),
+        "{text}"
+    );
+}
+
 /// Turns zeros' signs in the integrator, and NaNs' patterns in the output.
 fn turned(_: &Op, slate: &mut Slate, _: &mut usize) {
     slate.sheet.change("integ", |value| match value {
