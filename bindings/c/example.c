@@ -1,16 +1,17 @@
 /*
- * Makes a small QPSK signal, receives it in blocks and prints the symbol numbers. The program
- * bindings/rust/examples/receive.rs does the same and prints the same text.
+ * Makes a small QPSK signal that ends in silence, receives it in blocks and prints the symbol numbers. The
+ * program bindings/rust/examples/receive.rs does the same and prints the same text.
  */
 #include <inttypes.h>
 #include <stdio.h>
 
 #include "train_receiver.h"
 
-/* How many symbols are sent, and how many samples each has. */
+/* How many symbols are sent, for how many more the channel is silent then, and how many samples each has. */
 #define SYMBOLS 300
+#define SILENT 8
 #define SPS 4
-#define SAMPLES (SYMBOLS * SPS)
+#define SAMPLES ((SYMBOLS + SILENT) * SPS)
 
 /* How many samples a call is handed at most, and how many symbols it can put out: fewer than the samples
  * have, so that some samples are handed twice. */
@@ -28,7 +29,8 @@ static const double POINTS[4][2] = {{1.0, 1.0}, {-1.0, 1.0}, {-1.0, -1.0}, {1.0,
 static const double TURN[2] = {0.9999950652018582, 0.0031415874858795635};
 
 /* Symbols from a small generator, with linear transitions, on a carrier that turns slowly. The first
- * sample of a transition stands 0.3 of a sample behind the instant of the symbol before. */
+ * sample of a transition stands 0.3 of a sample behind the instant of the symbol before. Behind them the
+ * samples stay as they are: zero. */
 static void make_signal(float samples[2 * SAMPLES])
 {
     uint32_t state = 1;
@@ -52,8 +54,8 @@ static void make_signal(float samples[2 * SAMPLES])
     }
 }
 
-/* Receives so many samples block by block and prints the symbol numbers. A block begins with the first
- * sample that the last call did not consume. Answers the number of the last call. */
+/* Receives so many samples block by block and prints the symbol numbers, and '-' where there is none. A
+ * block begins with the first sample that the last call did not consume. Answers the number of the last call. */
 static uint32_t receive(trr_receiver *receiver, const float *samples, size_t count)
 {
     float strobes[2 * PLACES], output[2 * PLACES];
@@ -66,7 +68,12 @@ static uint32_t receive(trr_receiver *receiver, const float *samples, size_t cou
             return counts.number;
         }
         for (size_t k = 0; k < counts.produced; k++) {
-            printf("%zu", trr_symbol_number(TRR_QPSK, output[2 * k], output[2 * k + 1]));
+            size_t symbol = trr_symbol_number(TRR_QPSK, output[2 * k], output[2 * k + 1]);
+            if (symbol == TRR_NO_SYMBOL) {
+                printf("-");
+            } else {
+                printf("%zu", symbol);
+            }
             column++;
             if (column == WIDTH) {
                 printf("\n");

@@ -88,6 +88,12 @@ enum trr_constellation {
     TRR_PSK8 = 2
 };
 
+/** What is answered in the place of a symbol number where there is none (L11). It fits a uint8_t, and not a char,
+ *  which may be signed. */
+enum trr_symbol {
+    TRR_NO_SYMBOL = 255
+};
+
 /**
  * What a call answers: 0 if it is done, else the number of its refusal. A refusal is given where its
  * condition holds and no other refusal comes before it, and nowhere else (A2). Ranges include their ends,
@@ -558,11 +564,13 @@ trr_counts trr_receiver_receive(trr_receiver *x,
                                 float *output, size_t output_count);
 
 /**
- * The symbol number of an output sample (R11 to R14). Under BPSK it is 1 if re is below zero, or if re is
- * zero and im is below zero; else it is 0. Under 8-PSK it is the octant, 0 to 7: octant k goes from k eighths
- * of a turn up to but not including k + 1 eighths (C14). Under QPSK it is half the octant, rounded down: the
- * quadrant, 0 to 3. Silence (both parts zero) has the number 0, and under QPSK and 8-PSK so has a sample with
- * a NaN part.
+ * The symbol number of an output sample, or TRR_NO_SYMBOL if both parts are zero (of either sign) or if a part
+ * is NaN, under every constellation (R16). Test for it before you use the number.
+ *
+ * Under BPSK the number is 1 if re is below zero, or if re is zero and im is below zero; else it is 0 (R11).
+ * Under 8-PSK it is the octant, 0 to 7: of a finite sample, octant k goes from k eighths of a turn up to but
+ * not including k + 1 eighths; with an infinite part the signs and the larger part decide (R12, C14). Under
+ * QPSK it is half the octant, rounded down: the quadrant, 0 to 3 (R13).
  */
 TRR_MUST_USE
 size_t trr_symbol_number(uint32_t constellation, float re, float im);

@@ -1,12 +1,13 @@
-//! Makes a small QPSK signal, receives it in blocks and prints the symbol numbers. The program
-//! `bindings/c/example.c` does the same and prints the same text.
+//! Makes a small QPSK signal that ends in silence, receives it in blocks and prints the symbol numbers. The
+//! program `bindings/c/example.c` does the same and prints the same text.
 
 use train_receiver::{
     CarrierValues, Constellation, Detector, Receiver, Refusal, TimingValues, symbol_number,
 };
 
-/// How many symbols are sent, and how many samples each has.
+/// How many symbols are sent, for how many more the channel is silent then, and how many samples each has.
 const SYMBOLS: usize = 300;
+const SILENT: usize = 8;
 const SPS: usize = 4;
 
 /// How many samples a call is handed at most, and how many symbols it can put out: fewer than the
@@ -60,7 +61,8 @@ fn main() -> Result<(), Refusal> {
 }
 
 /// Symbols from a small generator, with linear transitions, on a carrier that turns slowly. The first
-/// sample of a transition stands 0.3 of a sample behind the instant of the symbol before.
+/// sample of a transition stands 0.3 of a sample behind the instant of the symbol before. Behind them come
+/// silent samples.
 fn signal() -> Vec<f32> {
     let mut samples = Vec::new();
     let mut state: u32 = 1;
@@ -79,11 +81,12 @@ fn signal() -> Vec<f32> {
         }
         from = to;
     }
+    samples.resize(2 * SPS * (SYMBOLS + SILENT), 0.0);
     samples
 }
 
-/// Receives the samples block by block and prints the symbol numbers. A block begins with the first
-/// sample that the last call did not consume.
+/// Receives the samples block by block and prints the symbol numbers, and '-' where there is none. A block
+/// begins with the first sample that the last call did not consume.
 fn receive(receiver: &mut Receiver, samples: &[f32]) -> Result<(), Refusal> {
     let (mut strobes, mut output) = ([0.0; 2 * PLACES], [0.0; 2 * PLACES]);
     let mut rest = samples;
@@ -92,10 +95,10 @@ fn receive(receiver: &mut Receiver, samples: &[f32]) -> Result<(), Refusal> {
         let block = &rest[..rest.len().min(2 * BLOCK)];
         let progress = receiver.receive(block, &mut strobes, &mut output)?;
         for symbol in output[..2 * progress.produced].chunks_exact(2) {
-            print!(
-                "{}",
-                symbol_number(Constellation::Qpsk, symbol[0], symbol[1])
-            );
+            match symbol_number(Constellation::Qpsk, symbol[0], symbol[1]) {
+                Some(number) => print!("{number}"),
+                None => print!("-"),
+            }
             column += 1;
             if column == WIDTH {
                 println!();

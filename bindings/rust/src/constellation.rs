@@ -32,14 +32,23 @@ impl Constellation {
     }
 }
 
-/// The symbol number of an output sample (R11 to R14).
+/// The symbol number of an output sample. `None` if both parts are zero (of either sign) or if a part is NaN,
+/// under every constellation (R16).
 ///
-/// Under BPSK it is 1 if `re` is below zero, or if `re` is zero and `im` is below zero; else it is 0. Under
-/// 8-PSK it is the octant, 0 to 7: octant k goes from k eighths of a turn up to but not including k + 1
-/// eighths (C14). Under QPSK it is half the octant, rounded down: the quadrant, 0 to 3. Silence (both parts
-/// zero) has the number 0, and under QPSK and 8-PSK so has a sample with a NaN part.
+/// Under BPSK the number is 1 if `re` is below zero, or if `re` is zero and `im` is below zero; else it is 0
+/// (R11). Under 8-PSK it is the octant, 0 to 7: of a finite sample, octant k goes from k eighths of a turn up
+/// to but not including k + 1 eighths; with an infinite part the signs and the larger part decide (R12, C14).
+/// Under QPSK it is half the octant, rounded down: the quadrant, 0 to 3 (R13).
+///
+/// ```
+/// use train_receiver::{Constellation, symbol_number};
+///
+/// assert_eq!(symbol_number(Constellation::Qpsk, -1.0, 1.0), Some(1));
+/// assert_eq!(symbol_number(Constellation::Qpsk, 0.0, -0.0), None);
+/// ```
 #[must_use]
-pub fn symbol_number(constellation: Constellation, re: f32, im: f32) -> usize {
+pub fn symbol_number(constellation: Constellation, re: f32, im: f32) -> Option<usize> {
     // SAFETY: the function takes any code and any f32, all by value.
-    unsafe { ffi::trr_symbol_number(constellation.code(), re, im) }
+    let number = unsafe { ffi::trr_symbol_number(constellation.code(), re, im) };
+    (number != ffi::NO_SYMBOL).then_some(number)
 }

@@ -37,6 +37,9 @@
 //! }
 //! ```
 
+/// What `trr_symbol_number` answers where a symbol has no number (L11).
+pub const NO_SYMBOL: usize = 255;
+
 /// A complex sample: the real part, then the imaginary one (A1).
 #[derive(Clone, Copy, Debug)]
 #[repr(C)]
@@ -428,7 +431,7 @@ unsafe extern "C" {
         output: *mut f32,
         output_len: usize,
     ) -> Counts;
-    /// The symbol number of an output sample (R11 to R14).
+    /// The symbol number of an output sample (R11 to R13), or [`NO_SYMBOL`] (R16, L11).
     #[must_use]
     pub fn trr_symbol_number(constellation: u32, re: f32, im: f32) -> usize;
 }

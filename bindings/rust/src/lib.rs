@@ -1,7 +1,8 @@
 //! The train report receiver for Rust programs: symbol timing recovery and carrier recovery.
 //!
 //! [`Receiver`] does both. [`RealTiming`], [`ComplexTiming`] and [`Carrier`] are the loops by
-//! themselves. [`ffi`] is the static library as it is. Labels such as (T8) are those of
+//! themselves. [`symbol_number`] reads an output sample: its number, or `None`. [`ffi`] is the static
+//! library as it is. Labels such as (T8) are those of
 //! docs/SPECIFICATION.md, which states the whole behaviour.
 //!
 //! Buffers are slices of f32. A complex sample is a pair of f32, the real part before the imaginary one,

@@ -68,6 +68,8 @@ fn named_codes() {
         header_has(constant, points.code());
         assert_eq!(Constellation::from_code(points.code()), points);
     }
+    header_has("TRR_NO_SYMBOL", 255);
+    assert_eq!(ffi::NO_SYMBOL, 255);
 }
 
 #[test]
@@ -115,20 +117,86 @@ fn symbol_numbers() {
         (2.0, -1.0),
     ];
     for (k, (re, im)) in around.into_iter().enumerate() {
-        assert_eq!(symbol_number(Constellation::Psk8, re, im), k);
-        assert_eq!(symbol_number(Constellation::Qpsk, re, im), k / 2);
+        assert_eq!(symbol_number(Constellation::Psk8, re, im), Some(k));
+        assert_eq!(symbol_number(Constellation::Qpsk, re, im), Some(k / 2));
         let left = usize::from(re < 0.0);
-        assert_eq!(symbol_number(Constellation::Bpsk, re, im), left);
+        assert_eq!(symbol_number(Constellation::Bpsk, re, im), Some(left));
     }
     // A sample at the start of an octant belongs to it (X9, X10).
-    assert_eq!(symbol_number(Constellation::Psk8, 1.0, 1.0), 1);
-    assert_eq!(symbol_number(Constellation::Psk8, 0.0, 1.0), 2);
+    assert_eq!(symbol_number(Constellation::Psk8, 1.0, 1.0), Some(1));
+    assert_eq!(symbol_number(Constellation::Psk8, 0.0, 1.0), Some(2));
     // Under BPSK the imaginary part decides if the real part is zero (R11).
-    assert_eq!(symbol_number(Constellation::Bpsk, 0.0, -1.0), 1);
-    assert_eq!(symbol_number(Constellation::Bpsk, 0.0, 1.0), 0);
-    // Silence (R14), and a sample whose parts are both NaN (R11, C14).
+    assert_eq!(symbol_number(Constellation::Bpsk, 0.0, -1.0), Some(1));
+    assert_eq!(symbol_number(Constellation::Bpsk, -0.0, 1.0), Some(0));
+}
+
+/// Whether a sample reads none, which it does under all constellations or under none of them.
+fn reads_none(re: f32, im: f32) -> bool {
+    let read = CONSTELLATIONS.map(|points| symbol_number(points, re, im).is_none());
+    assert_eq!(read, [read[0]; 3], "{re} {im}");
     for points in CONSTELLATIONS {
-        assert_eq!(symbol_number(points, 0.0, 0.0), 0);
-        assert_eq!(symbol_number(points, f32::NAN, f32::NAN), 0);
+        // SAFETY: the function takes any code and any f32.
+        let code = unsafe { ffi::trr_symbol_number(points.code(), re, im) };
+        assert_eq!(code == 255, read[0], "{re} {im}");
+    }
+    read[0]
+}
+
+#[test]
+fn a_program_in_c_tells_none_from_a_number() {
+    let source = r#"
+        #include <math.h>
+        #include <stdio.h>
+        #include "train_receiver.h"
+        static void show(float re, float im)
+        {
+            size_t symbol = trr_symbol_number(TRR_QPSK, re, im);
+            if (symbol == TRR_NO_SYMBOL) {
+                printf("-");
+            } else {
+                printf("%zu", symbol);
+            }
+        }
+        int main(void)
+        {
+            show(1.0f, 1.0f);
+            show(0.0f, -0.0f);
+            show(-1.0f, 0.0f);
+            show(-1.0f, NAN);
+            show(NAN, 0.0f);
+            show(0.0f, -1e-45f);
+            show(-INFINITY, INFINITY);
+            printf("\n");
+            return 0;
+        }
+    "#;
+    assert_eq!(Program::of_text("none.c", source).printed(), "0-2--31\n");
+}
+
+#[test]
+fn silence_and_nan_have_no_number() {
+    let least = f32::from_bits(1);
+    let others = [
+        1.0,
+        -1.0,
+        least,
+        -least,
+        f32::MAX,
+        f32::INFINITY,
+        -f32::INFINITY,
+    ];
+    for zero in [0.0, -0.0] {
+        assert!(reads_none(zero, 0.0) && reads_none(zero, -0.0));
+        assert!(reads_none(zero, f32::NAN) && reads_none(f32::NAN, zero));
+        assert!(
+            others
+                .iter()
+                .all(|&x| !reads_none(zero, x) && !reads_none(x, zero))
+        );
+    }
+    assert!(reads_none(f32::NAN, f32::NAN));
+    for x in others {
+        assert!(reads_none(x, f32::NAN) && reads_none(f32::NAN, x));
+        assert!(others.iter().all(|&y| !reads_none(x, y)));
     }
 }
