@@ -11,7 +11,7 @@ use Rattle.values.specs.declared.sample.C32.{C32}
 use Rattle.values.specs.Samples.{samples}
 use Rattle.timing.specs.Sample.{complex}
 use Rattle.complex_sync.specs.Views.{sync}
-use Rattle.receiver.specs.declared.record.Receiver.{Receiver}
+use Rattle.receiver.specs.Record.{Receiver}
 use Rattle.sample_calls.specs.Call.{Outcome, called, accepts}
 use Rattle.sample_calls.specs.Calls.{Call, whole, strobesOf, outputsOf}
 use Rattle.blocks.specs.Instants.{Instant, later, instants}

@@ -29,7 +29,7 @@ fn sum_words(s: Received) -> [u64; 4]
 {
     let r = s.receiver;
     [
-        r.count as u64,
+        r.count,
         s.number as u64,
         s.consumed as u64,
         s.produced as u64,

@@ -13,7 +13,8 @@ pub(crate) fn place(letter: u8) -> usize {
         b'o' => 5,
         b'm' => 6,
         b'a' | b'b' | b'd' | b'q' | b'e' => 7,
-        b'v' | b'c' | b'i' => tally::UNANSWERED,
+        b'x' => 8,
+        b'v' | b'c' | b'i' | b'j' => tally::UNANSWERED,
         _ => tally::MALFORMED,
     }
 }
@@ -28,5 +29,6 @@ pub(crate) fn show(tally: &[u64; 16], damaged: &[u64; 16]) {
     show_at(tally, 5, b"output");
     show_at(tally, 6, b"symbol_number");
     show_at(tally, 7, b"reading");
+    show_at(tally, 8, b"conversion");
     tally::show_end(tally, damaged);
 }

@@ -39,10 +39,11 @@ fn six_agree(six: Six, op: Operation) -> bool {
 fn agrees(slot: Slot, strobes: Six, output: Six, asked: Asked, op: Operation) -> bool {
     let letter = op.letter;
     match letter {
-        b'v' | b'c' | b'i' => true,
+        b'v' | b'c' | b'i' | b'j' => true,
         b'n' | b'u' => slot::set_up_agrees(asked, op),
         b'z' => words_agree(0, 0, 0, op),
         b'p' => words_agree(op.x % 0x1_0000_0000, 0, 0, op),
+        b'x' => slot::conversion_agrees(slot, op),
         b't' => six_agree(strobes, op),
         b'o' => six_agree(output, op),
         b'm' => symbol_agrees(op),
@@ -81,7 +82,7 @@ fn next(slot: Slot, asked: Asked, op: Operation) -> Slot
     let letter = op.letter;
     match letter {
         b'n' | b'u' => slot::set_up(asked, op),
-        b'z' | b'p' => slot::change(slot, op),
+        b'z' | b'p' | b'j' | b'x' => slot::change(slot, op),
         _ => slot,
     }
 }

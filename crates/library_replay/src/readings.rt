@@ -13,7 +13,7 @@ use train_receiver::CarrierReadings;
 use train_receiver::trr_receiver_readings;
 use train_receiver::trr_symbol_number;
 
-fn timing_agrees(t: TimingReadings, count: u32, op: Operation) -> bool {
+fn timing_agrees(t: TimingReadings, count: u64, op: Operation) -> bool {
     let letter = op.letter;
     match letter {
         b'a' => floats_agree(t.values.sps, t.values.loop_bw, t.values.damping, op),
@@ -23,12 +23,7 @@ fn timing_agrees(t: TimingReadings, count: u32, op: Operation) -> bool {
             t.values.ted as u64,
             op,
         ),
-        b'q' => words_agree(
-            count as u64,
-            f64_bits(t.next_strobe),
-            f64_bits(t.sps_estimate),
-            op,
-        ),
+        b'q' => words_agree(count, f64_bits(t.next_strobe), f64_bits(t.sps_estimate), op),
         _ => false,
     }
 }

@@ -4,6 +4,7 @@ use crate::asked::carrier_values;
 use crate::asked::code;
 use crate::asked::number;
 use crate::asked::timing_values;
+use crate::convert;
 use crate::loops;
 use answers::Operation;
 use plain_receiver::Receiver;
@@ -76,15 +77,26 @@ pub(crate) fn set_up_agrees(asked: Asked, op: Operation) -> bool {
     loops::timing_agrees(t, timing) && loops::carrier_agrees(code(op), c, carrier)
 }
 
-// Resets the receiver, or sets its phase.
+// Resets the receiver, sets its phase or its count, or converts its record.
 fn changed(r: Receiver, op: Operation) -> Receiver
     requires { ⌜ Given r ⌝ }
     ensures { λ z. ⌜ Given z ⌝ }
 {
-    if op.letter == b'z' {
-        return trr_receiver_reset(r);
+    let letter = op.letter;
+    match letter {
+        b'z' => trr_receiver_reset(r),
+        b'j' => convert::with_count(r, op.x),
+        b'x' => convert::convert(r),
+        _ => trr_receiver_set_phase(r, (op.x % 0x1_0000_0000) as u32),
     }
-    trr_receiver_set_phase(r, (op.x % 0x1_0000_0000) as u32)
+}
+
+// Whether a conversion agrees. Where there is no receiver, none does.
+pub(crate) fn conversion_agrees(slot: Slot, op: Operation) -> bool {
+    match slot {
+        Slot::Empty => false,
+        Slot::Ready(r) => convert::conversion_agrees(r, op),
+    }
 }
 
 pub(crate) fn change(slot: Slot, op: Operation) -> Slot

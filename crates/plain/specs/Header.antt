@@ -1,5 +1,5 @@
 -- L4, L11 and E1 to E8: the codes and numbers that bindings/c/train_receiver.h names, which a program in C has compiled
--- into it. Definitions only.
+-- into it. (The number of "too large", L13, is `tooLarge` of `plain_records`.) Definitions only.
 use mathlib.Core.Path.{_≡_}
 use Rattle.values.specs.declared.error.Refusal.the-variants.{Pace, Width, Damping, Pull, Slope, Gains, Uneven, Odd}
 use Rattle.values.specs.declared.progress.Progress.{Progress}

@@ -1,26 +1,18 @@
-// The receiver as a plain record: both loops' records and a symbol count. What comes in as a record is
-// turned into the receiver, and what goes out into a record again. `crates/train_receiver` exports it.
+// The receiver's set-up and calls, with the receiver as a plain record. What comes in as a record is turned into the
+// receiver, and what goes out into a record again. `crates/train_receiver` exports it.
 use plain::detector;
-use plain_carrier::Carrier;
+pub use plain_records::Receiver64 as Receiver;
+pub use plain_records::receiver_of;
+pub use plain_records::record_of;
 use plain_timing::TimingValues;
 use plain_timing::complex;
-use plain_timing::complex::ComplexTiming;
 use receiver::SetUp;
 use values::Counts;
 use values::counts_of;
 ghost use mathlib.Core.Path.{_≡_};
 ghost use Rattle.receiver.specs.Record.{SetUpGiven};
 ghost use Rattle.sample_calls.specs.Call.{called};
-ghost use Rattle.plain_receiver.specs.Receiver.{valuesOf, receiverOf, recordOf, none, setUpOf, outcomeOf, Given};
-
-// The receiver as a plain record.
-#[repr(C)]
-pub struct Receiver {
-    pub timing: ComplexTiming,
-    pub carrier: Carrier,
-    // How many symbols were produced since the set-up or the last reset, up to 4,294,967,295 (R6).
-    pub count: u32,
-}
+ghost use Rattle.plain_receiver.specs.Receiver.{valuesOf, receiverOf, none, setUpOf, outcomeOf, Given};
 
 // L3: the answer of a set-up: its number, and the receiver where the number is 0. Where it is not, there is
 // no receiver: the record is all zeros, and no call may be given it.
@@ -41,32 +33,6 @@ pub fn values_of(v: TimingValues) -> receiver::TimingValues
         damping: v.damping,
         max_deviation: v.max_deviation,
         ted_gain: v.ted_gain,
-    }
-}
-
-// The receiver that a record stands for.
-pub fn receiver_of(x: Receiver) -> receiver::Receiver
-    ensures { λ r. ⌜ r ≡ receiverOf x ⌝ }
-{
-    let t = x.timing;
-    let c = x.carrier;
-    receiver::Receiver {
-        timing: complex::state_of(t),
-        carrier: plain_carrier::state_of(c),
-        count: x.count,
-    }
-}
-
-// The record of a receiver.
-pub fn record_of(r: receiver::Receiver) -> Receiver
-    ensures { λ x. ⌜ x ≡ recordOf r ⌝ }
-{
-    let t = r.timing;
-    let c = r.carrier;
-    Receiver {
-        timing: complex::record_of(t),
-        carrier: plain_carrier::record_of(c),
-        count: r.count,
     }
 }
 

@@ -8,7 +8,7 @@ use lib.ListN.{length, drop, replicate}
 use lib.Ieee.{Float}
 use Rattle.ieee.specs.Notation.{zero₀}
 use Rattle.values.specs.Samples.{samples}
-use Rattle.receiver.specs.declared.record.Receiver.{Receiver}
+use Rattle.receiver.specs.Record.{Receiver}
 use Rattle.sample_calls.specs.Call.{Outcome, called}
 use Rattle.sample_calls.specs.Calls.{outputsOf}
 use Rattle.recordings.specs.declared.content.Content.{Content}

@@ -17,9 +17,10 @@ ghost use mathlib.Core.Path.{_≡_};
 ghost use mathlib.Core.Bool.{false};
 ghost use Rattle.receiver.specs.Record.{Given};
 
-// A proved loop has to end, and nothing says that the input does. So many blocks are read at most, 2^33
-// samples; a recording must have fewer (P1). They have fewer symbols than the receiver can count.
-const BLOCKS: u64 = 0x40_0000;
+// A proved loop has to end, and nothing says that the input does. So many blocks are read at most, 2^64
+// samples; a recording must have fewer (P1). With P1's settings a symbol takes more than two samples (T18),
+// so that the receiver can count them all (R18).
+const BLOCKS: u64 = 0x20_0000_0000_0000;
 
 // How many bytes a block of 2,048 samples has, how many f32 these are, and how many bytes a sample has.
 const BLOCK: usize = 16384;

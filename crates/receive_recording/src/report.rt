@@ -15,9 +15,9 @@ const TEXT: usize = 512;
 // Answers whether they could be written.
 pub(crate) fn symbols(before: Receiver, output: &[f32], n: usize) -> bool {
     let mut digits = [0u8; SYMBOLS];
-    let count = recordings::write_digits(before.constellation(), output, n, &mut digits);
+    let count = recordings::write_digits(receiver::constellation(before), output, n, &mut digits);
     let mut text = [0u8; TEXT];
-    let end = recordings::write_lines(before.count() as u64, &digits[..count], &mut text);
+    let end = recordings::write_lines(receiver::count(before), &digits[..count], &mut text);
     put(true, &text[..end])
 }
 
@@ -41,13 +41,13 @@ fn end_digits(count: u64) -> bool {
 
 // P8: how many symbols there are, how many of them read none, the pace, and whether the carrier is locked.
 fn put_summary(well: bool, r: Receiver, none: u64) -> bool {
-    let count = put_decimal(well, r.count() as u64);
+    let count = put_decimal(well, receiver::count(r));
     let symbols = put(count, b" symbols, ");
     let absent = put_decimal(symbols, none);
     let read = put(absent, b" of them none, ");
-    let pace = put_thousandths(read, recordings::thousandths(r.sps_estimate()));
+    let pace = put_thousandths(read, recordings::thousandths(receiver::sps_estimate(r)));
     let carrier = put(pace, b" samples per symbol, carrier ");
-    if r.locked() {
+    if receiver::locked(r) {
         put(carrier, b"locked\n")
     } else {
         put(carrier, b"not locked\n")
@@ -65,7 +65,7 @@ fn put_remark(well: bool, content: Content) -> bool {
 
 // Ends the last line of digits and writes the summary. Answers whether it could be written.
 pub(crate) fn summary(r: Receiver, none: u64, content: Content) -> bool {
-    let digits = end_digits(r.count() as u64);
+    let digits = end_digits(receiver::count(r));
     put_remark(put_summary(digits, r, none), content)
 }
 

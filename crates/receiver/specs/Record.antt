@@ -1,7 +1,7 @@
--- The receiver record: which set-up is refused, which record a set-up, a reset or the phase setting gives, and what
+-- The receiver: which set-up is refused, which record a set-up, a reset or the phase setting gives, and what
 -- holds of every such record. Definitions only.
 use mathlib.Core.Path.{_≡_}
-use Prim.Native.Nat.{ℕ, _<_, _^_}
+use Prim.Native.Nat.{ℕ}
 use mathlib.Core.Bool.{true}
 use mathlib.Core.List.{List, _++_}
 use lib.Dec.{T}
@@ -13,16 +13,21 @@ use Rattle.timing.specs.Setup as timing
 use Rattle.timing.specs.Sample.{complex}
 use Rattle.timing.specs.declared.params.Params.{Params}
 use Rattle.timing.specs.Run as run
-use Rattle.complex_sync.specs.Views.{sync, stateOf}
+use Rattle.complex_sync.specs.Views.{stateOf}
 use Rattle.constellations.specs.declared.kinds.CostasConstellation.{CostasConstellation}
 use Rattle.constellations.specs.declared.kinds.CostasConstellation.the-variants.{Bpsk}
 use Rattle.carrier.specs.declared.params.Params as carrierParams
 use Rattle.carrier.specs.State as carrier
-use Rattle.receiver.specs.declared.record.Receiver.{Receiver}
+use Rattle.receiver_records.specs.declared.record.Receiver64.{Receiver64}
+use Rattle.receiver_records.specs.Records.{Given64}
 use Rattle.receiver.specs.declared.record.TimingValues.{TimingValues}
 use Rattle.receiver.specs.declared.record.CarrierValues.{CarrierValues}
 use Rattle.receiver.specs.declared.record.SetUp.{SetUp}
 use Rattle.receiver.specs.declared.record.SetUp.the-variants.{Ready, Refused}
+
+-- R2, R18: the receiver's record is the one whose count has 64 bits
+abbrev pub Receiver : Type 0
+Receiver = Receiver64
 
 -- R3: the constellation where none is named
 abbrev pub unnamed : CostasConstellation
@@ -73,11 +78,9 @@ pub record SetUpWith (k : CostasConstellation) (t : TimingValues) (c : CarrierVa
   pub timing : r .timing .params ≡ timingParams t
   pub carrier : r .carrier .params ≡ carrierParamsOf c
 
--- ---- A9: a given record, from a set-up, a reset, the phase setting or a run: all that a public call requires
-pub record Given (r : Receiver) : Type 0 where
-  pub timing : run.Given (sync (r .timing))
-  pub carrier : carrier.Given (r .carrier)
-  pub count-in : r .count < 2 ^ 32
+-- ---- A9: a given record: all that a public call requires
+abbrev pub Given : Receiver → Type 0
+Given r = Given64 r
 
 abbrev pub SetUpGiven : SetUp → Type 0
 SetUpGiven (Ready r) = Given r

@@ -1,21 +1,11 @@
-// The receiver record, its set-up, reset, phase setting and readings.
+// The receiver's set-up, reset, phase setting and readings. Its record is the one whose count has 64 bits (R2, R18).
 use carrier::CostasConstellation;
-use carrier::CostasState;
-use complex_sync::SymbolSyncState;
+use receiver_records::Receiver64 as Receiver;
 use timing::Ted;
 use values::Refusal;
 ghost use mathlib.Core.Path.{_≡_};
 ghost use Rattle.timing.specs.Clock.{nextStrobe};
 ghost use Rattle.receiver.specs.Record.{unnamed, opened, restarted, phaseSet, Given, SetUpGiven};
-
-// R2: both loops, and how many symbols were produced since the set-up or the last reset.
-pub struct Receiver {
-    pub timing: SymbolSyncState,
-    // The constellation stands in it.
-    pub carrier: CostasState,
-    // At most 4,294,967,295 (R6).
-    pub count: u32,
-}
 
 // T2: what the timing loop is set up with.
 pub struct TimingValues {
@@ -125,61 +115,59 @@ pub fn set_phase(r: Receiver, phase: u32) -> Receiver
 
 // ---- Readings (R9)
 
-impl Receiver {
-    // The pace: the current estimate of the samples per symbol.
-    pub fn sps_estimate(self) -> f64
-        ensures { λ r. ⌜ r ≡ self .timing .track .clock .omega ⌝ }
-    {
-        self.timing.sps_estimate()
-    }
+// The pace: the current estimate of the samples per symbol.
+pub fn sps_estimate(r: Receiver) -> f64
+    ensures { λ z. ⌜ z ≡ r .timing .track .clock .omega ⌝ }
+{
+    r.timing.sps_estimate()
+}
 
-    // The instant of the next strobe in input samples, counted from the first sample of the next
-    // call's input. It is negative while the strobe lies in the history.
-    pub fn next_strobe(self) -> f64
-        ensures { λ r. ⌜ r ≡ nextStrobe (self .timing .track .clock) ⌝ }
-    {
-        self.timing.next_strobe()
-    }
+// The instant of the next strobe in input samples, counted from the first sample of the next
+// call's input. It is negative while the strobe lies in the history.
+pub fn next_strobe(r: Receiver) -> f64
+    ensures { λ z. ⌜ z ≡ nextStrobe (r .timing .track .clock) ⌝ }
+{
+    r.timing.next_strobe()
+}
 
-    // The carrier's frequency, in cycles per symbol.
-    pub fn frequency(self) -> f64
-        ensures { λ r. ⌜ r ≡ self .carrier .track .nco .freq ⌝ }
-    {
-        self.carrier.frequency()
-    }
+// The carrier's frequency, in cycles per symbol.
+pub fn frequency(r: Receiver) -> f64
+    ensures { λ z. ⌜ z ≡ r .carrier .track .nco .freq ⌝ }
+{
+    r.carrier.frequency()
+}
 
-    // Whether the lock detector reports lock.
-    pub fn locked(self) -> bool
-        ensures { λ r. ⌜ r ≡ self .carrier .track .lock .locked ⌝ }
-    {
-        self.carrier.locked()
-    }
+// Whether the lock detector reports lock.
+pub fn locked(r: Receiver) -> bool
+    ensures { λ z. ⌜ z ≡ r .carrier .track .lock .locked ⌝ }
+{
+    r.carrier.locked()
+}
 
-    // The smoothed lock measure.
-    pub fn lock_level(self) -> f32
-        ensures { λ r. ⌜ r ≡ self .carrier .track .lock .level ⌝ }
-    {
-        self.carrier.lock_level()
-    }
+// The smoothed lock measure.
+pub fn lock_level(r: Receiver) -> f32
+    ensures { λ z. ⌜ z ≡ r .carrier .track .lock .level ⌝ }
+{
+    r.carrier.lock_level()
+}
 
-    // The carrier's phase before the next symbol, in units of 2^-32 turn.
-    pub fn phase(self) -> u32
-        ensures { λ r. ⌜ r ≡ self .carrier .track .nco .phase ⌝ }
-    {
-        self.carrier.phase()
-    }
+// The carrier's phase before the next symbol, in units of 2^-32 turn.
+pub fn phase(r: Receiver) -> u32
+    ensures { λ z. ⌜ z ≡ r .carrier .track .nco .phase ⌝ }
+{
+    r.carrier.phase()
+}
 
-    // The constellation.
-    pub fn constellation(self) -> CostasConstellation
-        ensures { λ r. ⌜ r ≡ self .carrier .constellation ⌝ }
-    {
-        self.carrier.constellation()
-    }
+// The constellation.
+pub fn constellation(r: Receiver) -> CostasConstellation
+    ensures { λ z. ⌜ z ≡ r .carrier .constellation ⌝ }
+{
+    r.carrier.constellation()
+}
 
-    // How many symbols were produced since the set-up or the last reset, up to 4,294,967,295 (R6).
-    pub fn count(self) -> u32
-        ensures { λ r. ⌜ r ≡ self .count ⌝ }
-    {
-        self.count
-    }
+// How many symbols were produced since the set-up or the last reset, up to 18,446,744,073,709,551,615 (R18).
+pub fn count(r: Receiver) -> u64
+    ensures { λ z. ⌜ z ≡ r .count ⌝ }
+{
+    r.count
 }

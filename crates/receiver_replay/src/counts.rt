@@ -18,6 +18,7 @@ fn place(letter: u8) -> usize {
         b'm' => 7,
         b'a' | b'b' | b'k' | b's' | b'h' | b'y' | b'f' | b'd' | b'g' | b'w' | b'l' => 8,
         b'q' | b'e' => 9,
+        b'x' => 10,
         b'v' | b'c' | b'j' | b'i' => tally::UNANSWERED,
         _ => tally::MALFORMED,
     }
@@ -49,5 +50,6 @@ pub(crate) fn show(tally: &[u64; 16], damaged: &[u64; 16]) {
     show_calls(tally);
     show_at(tally, 8, b"state");
     show_at(tally, 9, b"reading");
+    show_at(tally, 10, b"conversion");
     tally::show_end(tally, damaged);
 }

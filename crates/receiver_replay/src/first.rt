@@ -1,4 +1,6 @@
 // Playing a line on a receiver.
+use crate::convert::conversion_agrees;
+use crate::convert::convert;
 use crate::set_up::set_up;
 use crate::tests::both;
 use crate::tests::either;
@@ -37,7 +39,7 @@ pub(crate) fn set_count(r: Receiver, count: u64) -> Receiver
     Receiver {
         timing: timing,
         carrier: carrier,
-        count: (count % HIGH) as u32,
+        count: count,
     }
 }
 
@@ -82,9 +84,9 @@ pub(crate) fn run(
 
 fn counts_agree(r: Receiver, op: Operation) -> bool {
     words_agree(
-        r.count() as u64,
-        f64_bits(r.next_strobe()),
-        f64_bits(r.sps_estimate()),
+        receiver::count(r),
+        f64_bits(receiver::next_strobe(r)),
+        f64_bits(receiver::sps_estimate(r)),
         op,
     )
 }
@@ -92,14 +94,14 @@ fn counts_agree(r: Receiver, op: Operation) -> bool {
 fn readings_agree(r: Receiver, op: Operation) -> bool {
     let flags = op.answer / HIGH;
     words_agree(
-        f64_bits(r.frequency()),
-        f32_bits(r.lock_level()) as u64,
+        f64_bits(receiver::frequency(r)),
+        f32_bits(receiver::lock_level(r)) as u64,
         op.answer,
         op,
     )
-        && r.phase() as u64 == op.answer % HIGH
-        && r.locked() == (flags % 2 == 1)
-        && plain::constellation_code(r.constellation()) as u64 == flags / 2
+        && receiver::phase(r) as u64 == op.answer % HIGH
+        && receiver::locked(r) == (flags % 2 == 1)
+        && plain::constellation_code(receiver::constellation(r)) as u64 == flags / 2
 }
 
 // Whether what the letter names agrees. No other letter is left.
@@ -140,8 +142,12 @@ pub(crate) fn play(
             set_phase(r, op.x)
         }
         b'j' => {
-            *agrees = words_agree(op.x % HIGH, 0, 0, op);
+            *agrees = words_agree(op.x, 0, 0, op);
             set_count(r, op.x)
+        }
+        b'x' => {
+            *agrees = conversion_agrees(r, op);
+            convert(r)
         }
         _ => {
             *agrees = either(*agrees, fields_agree(r, op));

@@ -19,6 +19,8 @@
 //   z  resets
 //   p  phase: sets it
 //   j  count: the record with this symbol count
+//   x  count, nothing, number: converts the record to one whose count has 32 bits, which has this count, and back; or
+//      the count is 0 and the number 100, "too large", and the record stays
 //   i  three samples, which go behind the input so far
 //   r  f32 of input + 2^16 f32 of strobe buffer + 2^32 f32 of output, consumed + 2^32 produced, number:
 //      runs
@@ -32,6 +34,7 @@
 //   l  lock level, locked, constellation
 //   q  symbol count, instant, pace: the receiver's readings
 //   e  frequency, lock level, phase + 2^32 locked + 2^33 constellation: its other readings
+mod convert;
 mod counts;
 mod first;
 mod second;

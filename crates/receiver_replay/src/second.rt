@@ -1,4 +1,5 @@
 // Playing a line on the turned receiver.
+use crate::convert::convert;
 use crate::first;
 use crate::first::set_count;
 use crate::first::set_phase;
@@ -60,6 +61,7 @@ pub(crate) fn play(
         b'z' => set_phase(receiver::reset(r), phase_on(0, turns.phase)),
         b'p' => set_phase(r, phase_on(op.x, turns.phase)),
         b'j' => set_count(r, op.x),
+        b'x' => convert(r),
         _ => r,
     }
 }

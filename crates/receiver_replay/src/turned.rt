@@ -133,11 +133,11 @@ pub(crate) fn buffers_turned(
 
 // Q7: whether the records agree but for the phases, which are turns apart.
 pub(crate) fn records_turned(a: Receiver, b: Receiver, turns: u64) -> bool {
-    a.count() == b.count()
-        && alike_f64(a.next_strobe(), b.next_strobe())
-        && alike_f64(a.sps_estimate(), b.sps_estimate())
-        && alike_f64(a.frequency(), b.frequency())
-        && alike_f32(a.lock_level(), b.lock_level())
-        && a.locked() == b.locked()
-        && b.phase() as u64 == phase_on(a.phase() as u64, turns)
+    receiver::count(a) == receiver::count(b)
+        && alike_f64(receiver::next_strobe(a), receiver::next_strobe(b))
+        && alike_f64(receiver::sps_estimate(a), receiver::sps_estimate(b))
+        && alike_f64(receiver::frequency(a), receiver::frequency(b))
+        && alike_f32(receiver::lock_level(a), receiver::lock_level(b))
+        && receiver::locked(a) == receiver::locked(b)
+        && receiver::phase(b) as u64 == phase_on(receiver::phase(a) as u64, turns)
 }

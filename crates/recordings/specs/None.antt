@@ -2,17 +2,13 @@
 use Prim.Native.Nat.{ℕ, _+_}
 use mathlib.Core.Bool.{cond}
 use mathlib.Core.List.{List, [], _∷_, foldl}
-use lib.Dec.{ltb}
 use Rattle.values.specs.declared.sample.C32.{C32}
+use Rattle.values.specs.Counter.{countAfter}
 use Rattle.symbol_numbers.specs.Symbol.{noSymbol}
-
--- the largest count
-abbrev pub top : ℕ
-top = 0xffffffffffffffff
 
 -- one symbol more
 abbrev pub noneAfter : ℕ → C32 → ℕ
-noneAfter n y = cond (noSymbol y) (cond (ltb n top) (n + 1) top) n
+noneAfter n y = cond (noSymbol y) (countAfter n 1) n
 
 -- symbols behind those before
 abbrev pub noneWith : ℕ → List C32 → ℕ

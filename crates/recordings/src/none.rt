@@ -6,18 +6,12 @@ ghost use lib.ListN.{take};
 ghost use Rattle.values.specs.Samples.{samples};
 ghost use Rattle.recordings.specs.None.{noneAfter, noneWith};
 
-// The largest count.
-const TOP: u64 = 0xffff_ffff_ffff_ffff;
-
 // The count with one symbol more.
 fn count(before: u64, y: C32) -> u64
     ensures { λ r. ⌜ r ≡ noneAfter before y ⌝ }
 {
     if symbol_numbers::is_none(y) {
-        if before < TOP {
-            return before + 1;
-        }
-        return TOP;
+        return values::counted(before, 1);
     }
     before
 }

@@ -5,6 +5,7 @@ pub mod Given
 pub mod Accepted
 pub mod Sparing
 pub mod Count
+pub mod Uncounted
 pub mod Turned
 pub mod Premise
 pub mod Cases

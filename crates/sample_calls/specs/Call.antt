@@ -1,8 +1,8 @@
 -- A sample call: when it is refused, and with what number, counts, receiver and buffers it ends. Definitions only.
-use Prim.Native.Nat.{ℕ, _+_, _*_}
+use Prim.Native.Nat.{ℕ, _*_}
 use mathlib.Core.Bool.{Bool, not, _&&_, _||_, cond}
 use mathlib.Core.List.{List}
-use lib.Dec.{eqb, ltb}
+use lib.Dec.{eqb}
 use lib.ListN.{length, take}
 use lib.Ieee.{Float}
 use Rattle.values.specs.declared.progress.Answer.{Answer}
@@ -10,11 +10,12 @@ use Rattle.values.specs.declared.error.Refusal.{Refusal}
 use Rattle.values.specs.declared.error.Refusal.the-variants.{Uneven, Odd}
 use Rattle.values.specs.Refusal.{numberOf}
 use Rattle.values.specs.Answer as answer
+use Rattle.values.specs.Counter.{countAfter}
 use Rattle.values.specs.Buffers.{written, oddEither, odd}
 use Rattle.timing.specs.Run.{doneComplex}
 use Rattle.complex_sync.specs.Views.{sync, stateOf}
 use Rattle.carrier.specs.Run as carrier
-use Rattle.receiver.specs.declared.record.Receiver.{Receiver}
+use Rattle.receiver.specs.Record.{Receiver}
 use Rattle.sample_calls.specs.declared.call.Ran.{Ran}
 
 -- A2: the number of the answer (0: done), the counts, the receiver, and what the two lent buffers hold
@@ -33,19 +34,12 @@ outcomeOf a r zs ys = record { number = answer.number a; consumed = answer.consu
 abbrev pub answered : Ran → List Float → List Float → Outcome
 answered z zs ys = outcomeOf (z .answer) (z .receiver) zs ys
 
--- R6: the largest symbol count
-abbrev pub top : ℕ
-top = 0xffffffff
-
--- R6: the symbol count after n symbols more
-unfoldable pub countAfter : ℕ → ℕ → ℕ
-countAfter count n = cond (ltb top (count + n)) top (count + n)
-
 -- A7: a refused call has the counts 0, and leaves the receiver and both buffers as they were
 abbrev pub refusedCall : Refusal → Receiver → List Float → List Float → Outcome
 refusedCall n r zs ys = record { number = numberOf n; consumed = 0; produced = 0; receiver = r; strobes = zs; output = ys }
 
--- R1: an accepted call, the carrier's run over the strobes of timing's run; the counts are timing's (R5)
+-- R1: an accepted call, the carrier's run over the strobes of timing's run; the counts are timing's (R5), and the
+-- symbol count grows by what is produced (R18)
 unfoldable pub done : Receiver → List Float → List Float → List Float → Outcome
 done r xs zs ys =
     let t = doneComplex (sync (r .timing)) xs zs in

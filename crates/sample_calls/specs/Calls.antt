@@ -15,11 +15,10 @@ use Rattle.timing.specs.Calls.{SameClock}
 use Rattle.complex_sync.specs.Views.{sync}
 use Rattle.constellations.specs.declared.kinds.CostasConstellation.{CostasConstellation}
 use Rattle.carrier.specs.Calls.{turnsLess, SameCarrier}
-use Rattle.receiver.specs.declared.record.Receiver.{Receiver}
 use Rattle.receiver.specs.declared.record.TimingValues.{TimingValues}
 use Rattle.receiver.specs.declared.record.CarrierValues.{CarrierValues}
 use Rattle.receiver.specs.declared.record.SetUp.the-variants.{Ready}
-use Rattle.receiver.specs.Record.{opened, restarted, SetUpWith, Given}
+use Rattle.receiver.specs.Record.{Receiver, opened, restarted, SetUpWith, Given}
 use Rattle.sample_calls.specs.Call.{Outcome, called, accepts}
 
 -- ---- which receivers the lists start from

@@ -2,31 +2,17 @@
 use receiver::Receiver;
 use values::Answer;
 use values::Refusal;
+use values::counted;
 ghost use mathlib.Core.Path.{_≡_};
 ghost use lib.ListN.{length};
 ghost use Rattle.values.specs.declared.progress.Answer.the-variants.{Refused};
 ghost use Rattle.receiver.specs.Record.{Given};
-ghost use Rattle.sample_calls.specs.Call.{countAfter, done, called, outcomeOf, answered};
-
-// The largest symbol count.
-const TOP: u32 = 0xffff_ffff;
+ghost use Rattle.sample_calls.specs.Call.{done, called, outcomeOf, answered};
 
 // The answer of a sample call, and the receiver after it.
 pub struct Ran {
     pub answer: Answer,
     pub receiver: Receiver,
-}
-
-// R6: the count after so many symbols more.
-fn counted(count: u32, symbols: usize) -> u32
-    ensures { λ r. ⌜ r ≡ countAfter count symbols ⌝ }
-{
-    let room = (TOP - count) as usize;
-    if room < symbols {
-        TOP
-    } else {
-        count + (symbols as u32)
-    }
 }
 
 // R1: a call whose strobe buffer is as long as the output. Neither loop refuses anything.

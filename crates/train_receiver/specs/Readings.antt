@@ -1,7 +1,7 @@
 -- C21 and R9: the readings of a carrier's record and of a receiver's. Definitions only.
 use Rattle.plain_timing.specs.Params as timing
 use Rattle.plain_carrier.specs.declared.Carrier.{Carrier}
-use Rattle.plain_receiver.specs.declared.Receiver.{Receiver}
+use Rattle.plain_receiver.specs.Receiver.{Receiver}
 use Rattle.train_receiver.specs.declared.carrier_loop.CarrierReadings.{CarrierReadings}
 use Rattle.train_receiver.specs.declared.whole.ReceiverReadings.{ReceiverReadings}
 

@@ -5,9 +5,10 @@
 //
 // Set-up, reset, setters and readings take and give records by value; a sample call replaces a record that
 // the caller lends. Nothing here requires anything but `Given` of a record: that a set-up, a reset, a setter
-// or a call of this library has given it (A9).
+// or a call of this library has given it, or that it is converted from such a one (A9).
 mod carrier_loop;
 mod complex_timing;
+mod convert;
 mod real_timing;
 mod whole;
 
@@ -22,6 +23,8 @@ pub use complex_timing::trr_complex_readings;
 pub use complex_timing::trr_complex_reset;
 pub use complex_timing::trr_complex_run;
 pub use complex_timing::trr_complex_set_up;
+pub use convert::trr_receiver_narrow;
+pub use convert::trr_receiver_widen;
 pub use real_timing::trr_real_readings;
 pub use real_timing::trr_real_reset;
 pub use real_timing::trr_real_run;

@@ -73,8 +73,8 @@ pub extern "C" fn trr_receiver_set_phase(x: Receiver, phase: u32) -> Receiver
 pub struct ReceiverReadings {
     pub timing: TimingReadings,
     pub carrier: CarrierReadings,
-    // How many symbols were produced since the set-up or the last reset, up to 4,294,967,295 (R6).
-    pub count: u32,
+    // How many symbols were produced since the set-up or the last reset, up to 18,446,744,073,709,551,615 (R18).
+    pub count: u64,
 }
 
 // L5: the readings of the receiver (R9).

@@ -8,7 +8,7 @@ use Rattle.constellations.specs.declared.kinds.CostasConstellation.{CostasConst
 use Rattle.symbol_numbers.specs.Symbol.{symbolOf}
 use Rattle.symbol_numbers.specs.Turned.{turnedNumber}
 use Rattle.carrier.specs.Calls.{turnsLess}
-use Rattle.receiver.specs.declared.record.Receiver.{Receiver}
+use Rattle.receiver.specs.Record.{Receiver}
 use Rattle.sample_calls.specs.Call.{Outcome}
 use Rattle.sample_calls.specs.Calls.{Call, outcomes, outputsOf}
 

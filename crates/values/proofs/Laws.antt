@@ -4,3 +4,4 @@ pub mod Turn
 pub mod Calls
 pub mod Buffers
 pub mod Refusal
+pub mod Counter

@@ -1,6 +1,7 @@
 pub mod Refusal
 pub mod Answer
 pub mod Counts
+pub mod Counter
 pub mod Samples
 pub mod Buffers
 pub mod Calls

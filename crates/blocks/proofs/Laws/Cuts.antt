@@ -5,8 +5,7 @@ use mathlib.Core.List.{List, [], _++_}
 use Prim.Native.Nat.{_%_}
 use lib.ListN.{length}
 use lib.Ieee.{Float}
-use Rattle.receiver.specs.declared.record.Receiver.{Receiver}
-use Rattle.receiver.specs.Record.{Given}
+use Rattle.receiver.specs.Record.{Receiver, Given}
 use Rattle.sample_calls.specs.Calls.{Call}
 use Rattle.blocks.specs.Receiver.{start, Heard, recorded, heard, left, TakesAll, Roomy, again, oftenEnough, APlace}
 use Rattle.blocks.proofs.Laws.Recording.{cut-never-shows}

@@ -12,6 +12,8 @@ use Rattle.values.specs.declared.error.Refusal.{Refusal}
 use Rattle.values.specs.Samples.{samples, parts}
 use Rattle.values.proofs.Laws.Samples.{samples-take}
 use Rattle.values.specs.Buffers.{written}
+use Rattle.values.specs.Counter.{countAfter}
+use Rattle.values.proofs.Laws.Counter.{count-none, count-twice}
 use Rattle.timing.specs.Sample.{complex}
 use Rattle.timing.specs.Run.{Ran, ran}
 use Rattle.timing.proofs.Laws.Turned.{written-back}
@@ -19,12 +21,10 @@ use Rattle.complex_sync.specs.Views.{sync, stateOf}
 use Rattle.cosine.specs.Table.{cosList}
 use Rattle.carrier.specs.Step.{Symbols, runs}
 use Rattle.carrier.proofs.Laws.Count.{runs-count}
-use Rattle.receiver.specs.declared.record.Receiver.{Receiver}
-use Rattle.receiver.specs.Record.{Given}
-use Rattle.sample_calls.specs.Call.{countAfter, refusedCall, done, accepts}
+use Rattle.receiver.specs.Record.{Receiver, Given}
+use Rattle.sample_calls.specs.Call.{refusedCall, done, accepts}
 use Rattle.sample_calls.specs.Calls.{Call, strobesOf, outputsOf}
 use Rattle.sample_calls.proofs.Laws.Refused.{accepted-done, refused-by}
-use Rattle.sample_calls.proofs.Laws.Count.{count-none, count-twice}
 use Rattle.blocks.specs.Instants.{Instant, later, instants}
 use Rattle.blocks.specs.Timing.{goesOn, together}
 use Rattle.blocks.specs.Receiver.{Waiting, handed, callOn, waitsAfter, Heard, heardOn, joined, unheard}

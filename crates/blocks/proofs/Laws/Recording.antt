@@ -13,8 +13,7 @@ use Rattle.values.proofs.Laws.Samples.{samples-append, samples-rest}
 use Rattle.timing.specs.Sample.{complex}
 use Rattle.timing.proofs.Laws.Run.{ran-produced}
 use Rattle.complex_sync.specs.Views.{sync}
-use Rattle.receiver.specs.declared.record.Receiver.{Receiver}
-use Rattle.receiver.specs.Record.{Given}
+use Rattle.receiver.specs.Record.{Receiver, Given}
 use Rattle.sample_calls.specs.Call.{accepts}
 use Rattle.sample_calls.specs.Calls.{Call}
 use Rattle.sample_calls.proofs.Laws.Given.{called-given}

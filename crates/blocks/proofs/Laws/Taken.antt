@@ -20,8 +20,7 @@ use Rattle.timing.specs.Sample.{complex}
 use Rattle.timing.specs.Run.{Ran, ran}
 use Rattle.timing.proofs.Laws.Run.{ran-all}
 use Rattle.complex_sync.specs.Views.{sync}
-use Rattle.receiver.specs.declared.record.Receiver.{Receiver}
-use Rattle.receiver.specs.Record.{Given}
+use Rattle.receiver.specs.Record.{Receiver, Given}
 use Rattle.sample_calls.specs.Call.{accepts, oddAny}
 use Rattle.sample_calls.specs.Calls.{Call}
 use Rattle.sample_calls.proofs.Laws.Given.{called-given}

@@ -1,6 +1,5 @@
--- L1 and L2: the receiver's record stands for the receiver faithfully, and a refused call leaves the very same
--- record. Assumes nothing.
-use mathlib.Core.Path.{_≡_, ap, sym, subst}
+-- L2: a refused call leaves the very same record. Assumes nothing.
+use mathlib.Core.Path.{_≡_, ap}
 use Prim.Native.Nat.{_<_}
 use native.Mathlib.Omega.{arith}
 use mathlib.Core.Bool.{Bool, true, false, cond}
@@ -9,40 +8,13 @@ use lib.Dec.{eqb}
 use lib.ListN.{length}
 use lib.Ieee.{Float}
 use Rattle.values.specs.declared.error.Refusal.the-variants.{Uneven, Odd}
-use Rattle.complex_sync.specs.Views.{sync}
-use Rattle.complex_sync.specs.Views as complex
-use Rattle.receiver.specs.declared.record.Receiver as declaredReceiver
-use Rattle.receiver.specs.Record as receiver
+use Rattle.receiver.specs.Record as declaredReceiver
 use Rattle.sample_calls.specs.Call.{Outcome, refusedCall, oddAny, done, called}
 use Rattle.values.specs.declared.counts.Counts.{Counts}
-use Rattle.plain_receiver.specs.declared.Receiver.{Receiver}
-use Rattle.plain.specs.Faithful.{Faithful}
-use Rattle.plain_receiver.specs.Receiver.{receiverOf, recordOf, outcomeOf, Given}
-use Rattle.plain.proofs.Laws.Codes.{detector-below, constellation-below}
+use Rattle.plain_receiver.specs.Receiver.{Receiver, receiverOf, outcomeOf, Given}
 use Rattle.plain.proofs.Laws.Recorded.{same-record}
-use Rattle.plain_timing.proofs.Laws.Faithful.{complex-faithful}
-use Rattle.plain_carrier.proofs.Laws.Faithful.{carrier-faithful}
+use Rattle.plain_records.proofs.Laws.Faithful.{receiver-faithful}
 
-state-back : (r : declaredReceiver.Receiver) → receiverOf (recordOf r) ≡ r
-state-back r = λ j. record { timing = complex.stateOf (complex-faithful .state-back (sync (r .timing)) j); carrier = carrier-faithful .state-back (r .carrier) j; count = r .count }
-
-record-back : (x : Receiver) → Given x → recordOf (receiverOf x) ≡ x
-record-back x g =
-    λ j. record {
-      timing = complex-faithful .record-back (x .timing) (record { state = g .receiver .timing; detector = g .detector }) j;
-      carrier = carrier-faithful .record-back (x .carrier) (record { state = g .receiver .carrier; constellation = g .constellation }) j;
-      count = x .count;
-    }
-
-pub receiver-faithful : Faithful receiverOf recordOf receiver.Given Given
-receiver-faithful = record {
-  state-back = state-back;
-  record-back = record-back;
-  given-out = λ r g. record { receiver = subst receiver.Given (sym (state-back r)) g; detector = detector-below (r .timing .params .ted); constellation = constellation-below (r .carrier .constellation) };
-  given-in = λ x g. g .receiver;
-}
-
--- ---- a refused call
 -- an outcome with the receiver and the buffers that the call found
 record AsFound (r : declaredReceiver.Receiver) (zs ys : List Float) (o : Outcome) : Type 0 where
   receiver : o .receiver ≡ r

@@ -4,7 +4,7 @@ use Rattle.receiver.specs.Record.{SetUpGiven}
 use Rattle.plain_receiver.specs.Receiver.{setUpOf}
 use Rattle.plain.proofs.Laws.Codes.{refused-not-done}
 use Rattle.plain.proofs.Laws.Recorded.{stays-given}
-use Rattle.plain_receiver.proofs.Laws.Receiver.{receiver-faithful}
+use Rattle.plain_records.proofs.Laws.Faithful.{receiver-faithful}
 use borrow.Author.Needs.{needs}
 use Rattle.plain_receiver.proofs.answer_of.Statement.{statement}
 use Rattle.plain_receiver.proofs.answer_of.Tie as tie

@@ -1,9 +1,9 @@
 -- `plain_receiver::run` meets its contract: the receiver goes in, runs, and its record comes out. Assumes nothing.
 use mathlib.Core.Path.{ap, _∙_}
-use Rattle.receiver.specs.declared.record.Receiver.{Receiver}
+use Rattle.receiver.specs.Record.{Receiver}
 use Rattle.sample_calls.specs.Call.{called}
 use Rattle.plain.proofs.Laws.Recorded.{stands, stays-given, came-given}
-use Rattle.plain_receiver.proofs.Laws.Receiver.{receiver-faithful}
+use Rattle.plain_records.proofs.Laws.Faithful.{receiver-faithful}
 use borrow.Author.Needs.{needs}
 use Rattle.plain_receiver.proofs.run.Statement.{statement}
 use Rattle.plain_receiver.proofs.run.Tie as tie

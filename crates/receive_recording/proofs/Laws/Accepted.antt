@@ -6,7 +6,7 @@ use Prim.Native.Nat.{ℕ, zero, suc, _-_, _*_, _%_}
 use native.Mathlib.Omega.{arith}
 use lib.ListN.{length, length-drop, drop}
 use lib.Ieee.{Float}
-use Rattle.receiver.specs.declared.record.Receiver.{Receiver}
+use Rattle.receiver.specs.Record.{Receiver}
 use Rattle.sample_calls.proofs.Laws.Refused.{all-even, called-number}
 use Rattle.receive_recording.specs.declared.block.Received.{Received}
 use Rattle.receive_recording.specs.Block.{places, callOn, calledOf, endedBy, final, received}

@@ -11,8 +11,7 @@ use lib.Seq.{take-all, drop-drop}
 use lib.Ieee.{Float}
 use borrow.Author.Tests.{eq-eqb, ne-eqb, le-leb, lt-leb}
 use Rattle.ieee.proofs.Laws.Test.{not-false}
-use Rattle.receiver.specs.declared.record.Receiver.{Receiver}
-use Rattle.receiver.specs.Record.{Given}
+use Rattle.receiver.specs.Record.{Receiver, Given}
 use Rattle.sample_calls.specs.Call.{Outcome}
 use Rattle.receive_recording.specs.declared.block.Called.{Called}
 use Rattle.receive_recording.specs.declared.block.Received.{Received}

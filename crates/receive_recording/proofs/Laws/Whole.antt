@@ -11,8 +11,7 @@ use lib.Dec.{T, eqb, leb}
 use lib.ListN.{length, drop, length-drop, drop-of-length-le}
 use lib.Ieee.{Float}
 use Rattle.ieee.proofs.Laws.Test.{yes}
-use Rattle.receiver.specs.declared.record.Receiver.{Receiver}
-use Rattle.receiver.specs.Record.{Given}
+use Rattle.receiver.specs.Record.{Receiver, Given}
 use Rattle.sample_calls.specs.Call.{Outcome, called}
 use Rattle.sample_calls.specs.Calls.{Call, outputsOf}
 use Rattle.sample_calls.proofs.Laws.Given.{called-given}

@@ -25,12 +25,11 @@ use Rattle.constellations.specs.declared.kinds.CostasConstellation.{CostasConst
 use Rattle.carrier.specs.declared.state.SetUp as carrierAnswer
 use Rattle.carrier.specs.declared.state.SetUp.the-variants as carrierSetUp
 use Rattle.carrier.specs.State as carrier
-use Rattle.receiver.specs.declared.record.Receiver.{Receiver}
 use Rattle.receiver.specs.declared.record.TimingValues.{TimingValues}
 use Rattle.receiver.specs.declared.record.CarrierValues.{CarrierValues}
 use Rattle.receiver.specs.declared.record.SetUp.{SetUp}
 use Rattle.receiver.specs.declared.record.SetUp.the-variants.{Ready, Refused}
-use Rattle.receiver.specs.Record.{timingParams, carrierParamsOf, fresh, timingRows, carrierRows, rows, opened, setUpNumber}
+use Rattle.receiver.specs.Record.{Receiver, timingParams, carrierParamsOf, fresh, timingRows, carrierRows, rows, opened, setUpNumber}
 
 -- ---- which set-up is refused, by its number: 2, 3 and 4 stand twice in the table
 pub refused-exactly : (k : CostasConstellation) (t : TimingValues) (c : CarrierValues) → Exactly (setUpNumber (opened k t c)) (rows t c)

@@ -3,11 +3,10 @@
 use mathlib.Core.Path.{_≡_, ap}
 use Prim.Native.Nat.{ℕ}
 use Rattle.constellations.specs.declared.kinds.CostasConstellation.{CostasConstellation}
-use Rattle.receiver.specs.declared.record.Receiver.{Receiver}
 use Rattle.receiver.specs.declared.record.TimingValues.{TimingValues}
 use Rattle.receiver.specs.declared.record.CarrierValues.{CarrierValues}
 use Rattle.receiver.specs.declared.record.SetUp.the-variants.{Ready}
-use Rattle.receiver.specs.Record.{opened, restarted, phaseSet, SetUpWith}
+use Rattle.receiver.specs.Record.{Receiver, opened, restarted, phaseSet, SetUpWith}
 use Rattle.receiver.proofs.Laws.Setup.{opened-is}
 
 module _ {k : CostasConstellation} {t : TimingValues} {c : CarrierValues} where

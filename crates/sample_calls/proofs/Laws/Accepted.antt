@@ -9,6 +9,7 @@ use lib.Ieee.{Float}
 use Rattle.values.specs.declared.sample.C32.{C32}
 use Rattle.values.specs.declared.progress.Answer.the-variants.{Done}
 use Rattle.values.specs.Buffers.{written}
+use Rattle.values.specs.Counter.{countAfter}
 use Rattle.timing.specs.Run.{doneComplex}
 use Rattle.timing.specs.Run as run
 use Rattle.timing.proofs.Laws.Run.{doneComplex-sparing}
@@ -17,8 +18,8 @@ use Rattle.complex_sync.specs.Views.{sync, stateOf, recovered}
 use Rattle.carrier.specs.declared.state.CostasState.{CostasState}
 use Rattle.carrier.specs.Run as carrier
 use Rattle.carrier.proofs.Laws.Carried.{carried-all}
-use Rattle.receiver.specs.declared.record.Receiver.{Receiver}
-use Rattle.sample_calls.specs.Call.{Outcome, outcomeOf, countAfter, done}
+use Rattle.receiver.specs.Record.{Receiver}
+use Rattle.sample_calls.specs.Call.{Outcome, outcomeOf, done}
 
 -- what an outcome of timing's makes of a call on r
 abbrev after : Receiver → List Float → run.Outcome C32 → Outcome

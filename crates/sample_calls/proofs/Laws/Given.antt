@@ -1,32 +1,20 @@
 -- A9: a given receiver stays given in a sample call, refused or not. Assumes nothing.
-use mathlib.Core.Path.{_≡_, refl}
-use Prim.Native.Nat.{ℕ, _+_, _*_, _/_, _<_, _^_}
-use native.Mathlib.Omega.{arith}
+use Prim.Native.Nat.{_*_, _/_}
 use mathlib.Core.Bool.{Bool, true, false, cond}
 use mathlib.Core.List.{List}
-use borrow.Author.Tests.{ltb-false}
-use lib.Dec.{lit<, eqb, ltb}
+use lib.Dec.{eqb}
 use lib.ListN.{length, take}
 use lib.Ieee.{Float}
 use Rattle.values.specs.declared.error.Refusal.the-variants.{Uneven, Odd}
 use Rattle.values.specs.Samples.{samples}
+use Rattle.values.proofs.Laws.Counter.{count-below}
 use Rattle.timing.specs.Sample.{complex}
 use Rattle.timing.specs.Run.{doneComplex}
 use Rattle.timing.proofs.Laws.Run.{ran-given}
 use Rattle.complex_sync.specs.Views.{sync}
 use Rattle.carrier.proofs.Laws.Given as carrier
-use Rattle.receiver.specs.declared.record.Receiver.{Receiver}
-use Rattle.receiver.specs.Record.{Given}
-use Rattle.sample_calls.specs.Call.{Outcome, top, countAfter, refusedCall, done, oddAny, called}
-
--- the count stays in 32 bits
-count-below : (count n : ℕ) → countAfter count n < 2 ^ 32
-unfolding countAfter
-count-below count n = go (ltb top (count + n)) refl
-  where
-    go : (b : Bool) → ltb top (count + n) ≡ b → cond b top (count + n) < 2 ^ 32
-    go true h = lit< tt
-    go false h = omega (arith, ltb-false)
+use Rattle.receiver.specs.Record.{Receiver, Given}
+use Rattle.sample_calls.specs.Call.{Outcome, refusedCall, done, oddAny, called}
 
 done-given : (r : Receiver) (xs zs ys : List Float) → Given r → Given (done r xs zs ys .receiver)
 unfolding done

@@ -38,10 +38,9 @@ use Rattle.carrier.specs.Filter.{newFreq, advanced}
 use Rattle.carrier.specs.Step.{stepped}
 use Rattle.carrier.specs.Step as carrierStep
 use Rattle.carrier.specs.State.{paramsOf}
-use Rattle.receiver.specs.declared.record.Receiver.{Receiver}
 use Rattle.receiver.specs.declared.record.TimingValues.{TimingValues}
 use Rattle.receiver.specs.declared.record.CarrierValues.{CarrierValues}
-use Rattle.receiver.specs.Record.{timingParams, carrierParamsOf, fresh, opened, phaseSet}
+use Rattle.receiver.specs.Record.{Receiver, timingParams, carrierParamsOf, fresh, opened, phaseSet}
 use Rattle.sample_calls.specs.Call.{done, called}
 use Rattle.sample_calls.specs.Calls.{Fresh, just-set-up, Call, after, TurnedCall, turnedCall, TurnedList}
 use Rattle.sample_calls.proofs.Laws.Turned.{turned-list}

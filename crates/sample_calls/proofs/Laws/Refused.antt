@@ -13,7 +13,7 @@ use Rattle.values.specs.declared.error.Refusal.{Refusal}
 use Rattle.values.specs.declared.error.Refusal.the-variants.{Uneven, Odd}
 use Rattle.values.specs.Buffers.{oddEither}
 use Rattle.values.proofs.Laws.Buffers.{odd-input, odd-output, both-even, even-both}
-use Rattle.receiver.specs.declared.record.Receiver.{Receiver}
+use Rattle.receiver.specs.Record.{Receiver}
 use Rattle.sample_calls.specs.Call.{Outcome, refusedCall, done, oddAny, called, accepts}
 
 -- ---- which counts are odd

@@ -20,7 +20,7 @@ use Rattle.timing.proofs.Laws.Run.{doneComplex-sparing}
 use Rattle.complex_sync.specs.Views.{sync}
 use Rattle.carrier.specs.Run as carrier
 use Rattle.carrier.proofs.Laws.Count.{done-length}
-use Rattle.receiver.specs.declared.record.Receiver.{Receiver}
+use Rattle.receiver.specs.Record.{Receiver}
 use Rattle.sample_calls.specs.Call.{refusedCall, done, oddAny, called}
 use Rattle.sample_calls.specs.Sparing.{Sparing}
 use Rattle.sample_calls.proofs.Laws.Refused.{called-odd, called-uneven, called-done}

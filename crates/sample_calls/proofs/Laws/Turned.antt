@@ -37,10 +37,9 @@ use Rattle.detectors.specs.Turns.{Allowed}
 use Rattle.carrier.proofs.Laws.Count.{runs-count}
 use Rattle.carrier.proofs.Laws.Turned.{TiedState, same-carrier}
 use Rattle.carrier.proofs.Laws.Turned as carrier
-use Rattle.receiver.specs.declared.record.Receiver.{Receiver}
 use Rattle.receiver.specs.declared.record.TimingValues.{TimingValues}
 use Rattle.receiver.specs.declared.record.CarrierValues.{CarrierValues}
-use Rattle.receiver.specs.Record.{timingParams, carrierParamsOf, fresh, phaseSet}
+use Rattle.receiver.specs.Record.{Receiver, timingParams, carrierParamsOf, fresh, phaseSet}
 use Rattle.sample_calls.specs.Call.{Outcome, refusedCall, done, oddAny, called}
 use Rattle.sample_calls.specs.Calls.{Fresh, just-set-up, just-reset, Call, callOf, leftBy, TurnedCall, turnedCall, outputsOf, TurnedOutcome, SameReceiver, TurnedList}
 use Rattle.receiver.proofs.Laws.Setup.{opened-is}

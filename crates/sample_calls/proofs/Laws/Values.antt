@@ -9,10 +9,9 @@ use Rattle.values.specs.declared.error.Refusal.the-variants.{Uneven, Odd}
 use Rattle.values.specs.Calls.{afterBy}
 use Rattle.timing.specs.Run.{ran}
 use Rattle.constellations.specs.declared.kinds.CostasConstellation.{CostasConstellation}
-use Rattle.receiver.specs.declared.record.Receiver.{Receiver}
 use Rattle.receiver.specs.declared.record.TimingValues.{TimingValues}
 use Rattle.receiver.specs.declared.record.CarrierValues.{CarrierValues}
-use Rattle.receiver.specs.Record.{SetUpWith}
+use Rattle.receiver.specs.Record.{Receiver, SetUpWith}
 use Rattle.sample_calls.specs.Call.{Outcome, refusedCall, done, oddAny, called}
 use Rattle.sample_calls.specs.Calls.{Call, callOf, after}
 

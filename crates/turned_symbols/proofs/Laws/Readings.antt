@@ -14,10 +14,9 @@ use Rattle.symbol_numbers.specs.Turned.{Onto}
 use Rattle.symbol_numbers.proofs.Laws.Symbol.{symbol-alike}
 use Rattle.symbol_numbers.proofs.Laws.Turned.{symbol-turned}
 use Rattle.carrier.specs.Calls.{turnsLess}
-use Rattle.receiver.specs.declared.record.Receiver.{Receiver}
 use Rattle.receiver.specs.declared.record.TimingValues.{TimingValues}
 use Rattle.receiver.specs.declared.record.CarrierValues.{CarrierValues}
-use Rattle.receiver.specs.Record.{phaseSet}
+use Rattle.receiver.specs.Record.{Receiver, phaseSet}
 use Rattle.sample_calls.specs.Call.{Outcome}
 use Rattle.sample_calls.specs.Calls.{Fresh, Call, TurnedCall, TurnedOutcome}
 use Rattle.sample_calls.proofs.Laws.Turned.{turned-recordings}

@@ -8,8 +8,8 @@ use Rattle.plain_receiver.specs.declared.ReceiverRan.{ReceiverRan}
 use Rattle.lent.proofs.Laws.Entry.{Entry}
 use Rattle.lent.proofs.Laws.Caller.{Caller, function}
 use Rattle.lent.proofs.Laws.Calls.{caller-meets}
-use Rattle.plain_receiver.proofs.Receiver as state
-use Rattle.plain_receiver.proofs.Receiver.Laws as state-laws
+use Rattle.plain_records.proofs.record.Receiver64 as state
+use Rattle.plain_records.proofs.record.Receiver64.Laws as state-laws
 use Rattle.values.proofs.counts.Counts as answer
 use Rattle.values.proofs.counts.Counts.Laws as answer-laws
 use Rattle.plain_receiver.proofs.ReceiverRan as ran

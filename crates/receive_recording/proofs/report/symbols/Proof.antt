@@ -16,5 +16,5 @@ pub symbols-spec : {M : Type 1} → statement M
 symbols-spec =
     tie.close
     (tie.spec (λ c κs. search needs) (λ c. search needs) (λ c κs. search needs) (λ c κs. search needs)
-    (λ c. search needs) (λ c. search needs) slice-aggregate-write-lines (λ c. search needs) (λ c κs. search needs)
+    (λ c. search needs) slice-aggregate-write-lines (λ c. search needs) (λ c κs. search needs)
     (λ c. search needs) slice-aggregate-put (λ c κs. search needs) (λ c. search needs))

@@ -6,8 +6,8 @@ use Rattle.sample_calls.specs.Call.{called, outcomeOf, answered}
 use Rattle.sample_calls.specs.declared.call.Ran.{Ran}
 use Rattle.lent.proofs.Laws.Entry.{Entry, writes-back, function}
 use Rattle.lent.proofs.Laws.Lent.{entry-meets}
-use Rattle.receiver.proofs.record.Receiver as receiver
-use Rattle.receiver.proofs.record.Receiver.Laws as receiver-laws
+use Rattle.receiver_records.proofs.record.Receiver64 as receiver
+use Rattle.receiver_records.proofs.record.Receiver64.Laws as receiver-laws
 use Rattle.values.proofs.progress.Answer as answer
 use Rattle.values.proofs.progress.Answer.Laws as answer-laws
 use Rattle.sample_calls.proofs.call.Ran as ran

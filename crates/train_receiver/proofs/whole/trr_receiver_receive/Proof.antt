@@ -6,8 +6,8 @@ use Rattle.plain_receiver.specs.Receiver.{receiverOf, outcomeOf, Given}
 use Rattle.plain_receiver.specs.declared.ReceiverRan.{ReceiverRan}
 use Rattle.lent.proofs.Laws.Entry.{Entry, writes-back, function}
 use Rattle.lent.proofs.Laws.Lent.{entry-meets}
-use Rattle.plain_receiver.proofs.Receiver as state
-use Rattle.plain_receiver.proofs.Receiver.Laws as state-laws
+use Rattle.plain_records.proofs.record.Receiver64 as state
+use Rattle.plain_records.proofs.record.Receiver64.Laws as state-laws
 use Rattle.values.proofs.counts.Counts as answer
 use Rattle.values.proofs.counts.Counts.Laws as answer-laws
 use Rattle.plain_receiver.proofs.ReceiverRan as ran

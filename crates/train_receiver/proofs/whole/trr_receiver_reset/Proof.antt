@@ -1,11 +1,10 @@
 -- `train_receiver::whole::trr_receiver_reset` meets its contract: the receiver goes in, is reset, and its record
 -- comes out. Assumes nothing.
 use mathlib.Core.Path.{ap, _∙_}
-use Rattle.receiver.specs.declared.record.Receiver.{Receiver}
-use Rattle.receiver.specs.Record.{restarted}
+use Rattle.receiver.specs.Record.{Receiver, restarted}
 use Rattle.plain_receiver.specs.Receiver.{recordOf}
 use Rattle.plain.proofs.Laws.Recorded.{stays-given, came-given}
-use Rattle.plain_receiver.proofs.Laws.Receiver.{receiver-faithful}
+use Rattle.plain_records.proofs.Laws.Faithful.{receiver-faithful}
 use borrow.Author.Needs.{needs}
 use Rattle.train_receiver.proofs.whole.trr_receiver_reset.Statement.{statement}
 use Rattle.train_receiver.proofs.whole.trr_receiver_reset.Tie as tie

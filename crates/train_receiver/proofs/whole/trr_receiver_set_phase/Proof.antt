@@ -1,11 +1,10 @@
 -- `train_receiver::whole::trr_receiver_set_phase` meets its contract: the receiver goes in, takes the phase, and its
 -- record comes out. Assumes nothing.
 use mathlib.Core.Path.{ap, _∙_}
-use Rattle.receiver.specs.declared.record.Receiver.{Receiver}
-use Rattle.receiver.specs.Record.{phaseSet}
+use Rattle.receiver.specs.Record.{Receiver, phaseSet}
 use Rattle.plain_receiver.specs.Receiver.{recordOf}
 use Rattle.plain.proofs.Laws.Recorded.{stays-given, came-given}
-use Rattle.plain_receiver.proofs.Laws.Receiver.{receiver-faithful}
+use Rattle.plain_records.proofs.Laws.Faithful.{receiver-faithful}
 use borrow.Author.Needs.{needs}
 use Rattle.train_receiver.proofs.whole.trr_receiver_set_phase.Statement.{statement}
 use Rattle.train_receiver.proofs.whole.trr_receiver_set_phase.Tie as tie

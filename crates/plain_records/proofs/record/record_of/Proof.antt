@@ -1,7 +1,7 @@
--- `plain_receiver::record_of` meets its contract: each loop's record is that of its state. Assumes nothing.
+-- `plain_records::record::record_of` meets its contract: each loop's record is that of its state. Assumes nothing.
 use borrow.Author.Needs.{needs}
-use Rattle.plain_receiver.proofs.record_of.Statement.{statement}
-use Rattle.plain_receiver.proofs.record_of.Tie as tie
+use Rattle.plain_records.proofs.record.record_of.Statement.{statement}
+use Rattle.plain_records.proofs.record.record_of.Tie as tie
 
 returns : tie.Need-returns
 returns c = λ j. record { timing = c .before .record-of .ensures j; carrier = c .record-of2 .ensures j; count = c .before .before .before .before .args .r .count }
