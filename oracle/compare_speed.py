@@ -1,12 +1,13 @@
 #!/usr/bin/env python3
 """Compares the speed of two landings, in turns.
 
-    python3 compare_speed.py EARLIER [TURNS]     as: ../../earlier 12
+    python3 compare_speed.py EARLIER [TURNS [own]]     as: ../../earlier 12
 
 EARLIER is the root of another checkout of this repository. In both checkouts `rt staticlib
 train_receiver` must have been run. The benchmark of this one is built with each library (and that
 checkout's bindings/rust) and run TURNS times, in the order earlier, later, later, earlier, and so
 on, so that a slow drift of the machine's pace meets both alike. Nothing else should run beside it.
+With `own` each library is measured by its own checkout's benchmark: for a landing that moves a record.
 For each row of the first table it prints by how many per cent the later one is behind (a minus: ahead):
 
     fastest   the fastest run of the ported library, later against earlier. This one decides.
@@ -32,13 +33,13 @@ BEHIND = 2.0
 USUAL_SOURCES = ["../../sdrk", "../../shared/docs/src"]
 
 
-def built(root, folder):
-    """The benchmark, with the library of a checkout in it."""
+def built(root, oracle, folder):
+    """A benchmark, with the library of a checkout in it."""
     library = root / "target" / "staticlib"
     if not (library / "libtrain_receiver.a").exists():
         sys.exit(f"{library} has no library: run `rt staticlib train_receiver` in {root}")
     ignore = shutil.ignore_patterns("target")
-    shutil.copytree(HERE, folder / "oracle", ignore=ignore)
+    shutil.copytree(oracle, folder / "oracle", ignore=ignore)
     shutil.copytree(root / "bindings", folder / "bindings", ignore=ignore)
     usual = next((place for place in USUAL_SOURCES if (HERE / place).is_dir()), USUAL_SOURCES[0])
     source = HERE / os.environ.get("SDRK_SRC", usual)
@@ -75,9 +76,11 @@ def compared(earlier, later):
             per_cent(*map(median, ratios)), per_cent(*map(min, originals)))
 
 
-def main(earlier, turns):
+def main(earlier, turns, own):
     with tempfile.TemporaryDirectory() as folder:
-        programs = [built(root, Path(folder) / name) for root, name in ((earlier, "earlier"), (HERE.parent, "later"))]
+        roots = (earlier, HERE.parent)
+        programs = [built(root, root / "oracle" if own else HERE, Path(folder) / str(place))
+                    for place, root in enumerate(roots)]
         runs = ([], [])
         for turn in range(turns):
             for which in ((0, 1), (1, 0))[turn % 2]:
@@ -94,6 +97,6 @@ def main(earlier, turns):
 
 
 if __name__ == "__main__":
-    if len(sys.argv) not in (2, 3):
+    if len(sys.argv) not in (2, 3, 4) or sys.argv[3:] not in ([], ["own"]):
         sys.exit(__doc__)
-    sys.exit(main(Path(sys.argv[1]).resolve(), int(sys.argv[2]) if len(sys.argv) == 3 else 12))
+    sys.exit(main(Path(sys.argv[1]).resolve(), int(sys.argv[2]) if len(sys.argv) > 2 else 12, len(sys.argv) == 4))

@@ -17,13 +17,14 @@ use crate::{Fallback, Reference};
 
 mod cases;
 mod chains;
+mod conversions;
 mod library;
 pub mod receiver;
 mod set_ups;
 mod symbols;
 mod turned;
 
-use receiver::{Answer, Receiver, Values, samples, symbol_code};
+use receiver::{Answer, Receiver, TOO_LARGE, Values, samples, symbol_code};
 
 /// The random numbers are the same every time.
 const SEED: u64 = 20_261_118;
@@ -37,7 +38,7 @@ pub fn recorded() -> String {
 }
 
 /// The set-ups, the cases X13 to X21 of docs/SPECIFICATION.md and the symbol numbers; then chains of calls,
-/// and turned lists.
+/// turned lists, and calls between conversions.
 fn recorded_by<K: Kernel>(kernel: K) -> String {
     let mut random = Random::new(SEED);
     let script = Script::default();
@@ -51,6 +52,7 @@ fn recorded_by<K: Kernel>(kernel: K) -> String {
             turned::record(&mut recorder, &mut random, points, detector);
         }
     }
+    conversions::record(&mut recorder, &mut random);
     recorder.script.into_text()
 }
 
@@ -149,7 +151,7 @@ impl<K: Kernel> Recorder<K> {
         states::timing(&mut self.script, &timing);
         states::carrier(&mut self.script, &carrier, ['d', 'g', 'w', 'l']);
         let [instant, pace] = [timing.next_strobe(), timing.sps_estimate()].map(bits64);
-        self.script.line('q', u64::from(count), instant, pace);
+        self.script.line('q', count, instant, pace);
         let points = u64::from(constellation_code(carrier.constellation()));
         let flags = u64::from(carrier.locked()) + 2 * points;
         self.script.line(
@@ -173,10 +175,24 @@ impl<K: Kernel> Recorder<K> {
     }
 
     /// A record with another count, as a very long recording would leave it.
-    fn set_count(&mut self, r: &mut Receiver, count: u32) {
+    fn set_count(&mut self, r: &mut Receiver, count: u64) {
         r.count = count;
-        self.script.line('j', u64::from(count), 0, 0);
+        self.script.line('j', count, 0, 0);
         self.record(r);
+    }
+
+    /// The record converted down, and up again where that gives one; says whether it does.
+    fn convert(&mut self, r: &mut Receiver) -> bool {
+        let narrowed = r.narrowed();
+        match narrowed {
+            Some(old) => {
+                self.script.line('x', old.count.into(), 0, 0);
+                *r = old.widened();
+            }
+            None => self.script.line('x', 0, 0, TOO_LARGE),
+        }
+        self.record(r);
+        narrowed.is_some()
     }
 
     /// A sample call with so many f32 of strobe buffer and of output, and the symbol number of each

@@ -1,4 +1,4 @@
-//! The cases X13 to X21 of docs/SPECIFICATION.md, and the top of the symbol count.
+//! The cases X13 to X21 of docs/SPECIFICATION.md, the top of the symbol count, and conversions.
 
 use super::receiver::{Receiver, Values};
 use super::{DETECTORS, Recorder, Turns};
@@ -35,6 +35,8 @@ pub fn record<K: Kernel>(recorder: &mut Recorder<K>) {
     numbers(recorder);
     levels(recorder);
     top(recorder);
+    old_top(recorder);
+    conversions(recorder);
 }
 
 /// X13, X14 and X15 at 2 samples per symbol; X16 or X17, by the detector, at 4.
@@ -93,24 +95,70 @@ fn levels<K: Kernel>(recorder: &mut Recorder<K>) {
         }
         let carrier = receiver.carrier;
         assert_eq!((carrier.level, carrier.locked), (edge.level, edge.locked));
-        assert_eq!(receiver.count as usize, edge.samples.len());
+        assert_eq!(receiver.count, edge.samples.len() as u64);
     }
 }
 
-/// A count that comes to the top, passes it and stays there; a reset clears it. Equal samples have no
-/// timing error, so that a call of 20 samples gives 10 symbols.
+/// So many symbols are left up to a top.
+const BELOW: [u64; 6] = [20, 11, 10, 9, 1, 0];
+
+/// A receiver that has made some symbols. Equal samples have no timing error, so that a call of 20 samples
+/// gives 10 symbols.
+fn underway<K: Kernel>(recorder: &mut Recorder<K>) -> Receiver {
+    let (samples, phase) = (2, 3);
+    let turns = Turns { samples, phase };
+    let mut receiver = recorder.opened(values(2.0, Ted::MuellerMuller, qpsk()), turns);
+    ten_more(recorder, &mut receiver);
+    receiver
+}
+
+fn ten_more<K: Kernel>(recorder: &mut Recorder<K>, receiver: &mut Receiver) {
+    let called = recorder.call(receiver, &[1f32; 40], 40, 40);
+    assert_eq!(called.answer.number, 0);
+}
+
+/// A count that comes to the top, passes it and stays there (R18); a reset clears it.
 fn top<K: Kernel>(recorder: &mut Recorder<K>) {
-    let input = [1f32; 40];
-    for below in [20, 11, 10, 9, 1, 0] {
-        let (samples, phase) = (2, 3);
-        let turns = Turns { samples, phase };
-        let mut receiver = recorder.opened(values(2.0, Ted::MuellerMuller, qpsk()), turns);
-        recorder.call(&mut receiver, &input, 40, 40);
-        recorder.set_count(&mut receiver, u32::MAX - below);
+    for below in BELOW {
+        let mut receiver = underway(recorder);
+        recorder.set_count(&mut receiver, u64::MAX - below);
         for left in [below.saturating_sub(10), below.saturating_sub(20)] {
-            recorder.call(&mut receiver, &input, 40, 40);
-            assert_eq!(receiver.count, u32::MAX - left);
+            ten_more(recorder, &mut receiver);
+            assert_eq!(receiver.count, u64::MAX - left);
+        }
+        assert!(!recorder.convert(&mut receiver));
+        recorder.reset(&mut receiver);
+    }
+}
+
+/// A record of 32 bits, near its top or stuck there, converts with its count; calls count on from there (R20), and
+/// the record is too large once they have passed that top (R21).
+fn old_top<K: Kernel>(recorder: &mut Recorder<K>) {
+    let old = u64::from(u32::MAX);
+    for below in BELOW {
+        let mut receiver = underway(recorder);
+        recorder.set_count(&mut receiver, old - below);
+        assert!(recorder.convert(&mut receiver));
+        for more in [10, 20] {
+            ten_more(recorder, &mut receiver);
+            assert_eq!(receiver.count, old - below + more);
+            assert_eq!(recorder.convert(&mut receiver), more <= below);
         }
         recorder.reset(&mut receiver);
+        assert!(recorder.convert(&mut receiver));
+    }
+}
+
+/// Counts around powers of two, and those whose lower half would fit.
+fn conversions<K: Kernel>(recorder: &mut Recorder<K>) {
+    let old = u64::from(u32::MAX);
+    let mut receiver = underway(recorder);
+    for count in [0, 1, 1 << 31, old - 1, old] {
+        recorder.set_count(&mut receiver, count);
+        assert!(recorder.convert(&mut receiver));
+    }
+    for count in [old + 1, old + 2, 1 << 33, 5 << 32, (1 << 63) + 7, u64::MAX] {
+        recorder.set_count(&mut receiver, count);
+        assert!(!recorder.convert(&mut receiver));
     }
 }

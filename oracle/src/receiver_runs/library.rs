@@ -2,7 +2,7 @@
 //! places at most, so that input, strobe buffer and output are a line each.
 
 use super::receiver::{Receiver, Values};
-use super::{DETECTORS, Recorder, Turns, chains, set_ups};
+use super::{DETECTORS, Recorder, Turns, chains, conversions, set_ups};
 use crate::carrier_runs::{self, CONSTELLATIONS};
 use crate::kernels::costas::CostasConstellation;
 use crate::kernels::symbol_sync::Ted;
@@ -14,14 +14,14 @@ use crate::signal::Signal;
 use crate::types::C32;
 
 /// The letters of the lines that the replay plays.
-pub const LETTERS: &str = "vcnuzpirtomabdqe";
+pub const LETTERS: &str = "vcnuzpjxirtomabdqe";
 /// The calls after a set-up.
 const CALLS: usize = 20;
 /// The calls after a phase was set, and after a reset.
 const MORE: usize = 4;
 /// The samples and the places of a call.
-const SAMPLES: usize = 3;
-const PLACES: usize = 2;
+pub const SAMPLES: usize = 3;
+pub const PLACES: usize = 2;
 /// The f32 of input, strobe buffer and output of calls that are refused: odd, uneven, and both.
 const REFUSED: [[usize; 3]; 3] = [[5, 4, 4], [6, 4, 2], [6, 3, 4]];
 /// Samples that read none, and next to each one that does not.
@@ -38,7 +38,7 @@ const READ: [(f32, f32); 10] = [
     (-1.0, -f32::INFINITY),
 ];
 /// The values do not turn: the second receiver is for another replay.
-const STRAIGHT: Turns = Turns {
+pub const STRAIGHT: Turns = Turns {
     samples: 0,
     phase: 0,
 };
@@ -62,6 +62,7 @@ pub fn record<K: Kernel>(recorder: &mut Recorder<K>, random: &mut Random) {
             }
         }
     }
+    conversions::short(recorder, random);
 }
 
 /// Calls on one signal, with a phase that is set, calls that are refused, and a reset.

@@ -38,13 +38,24 @@ impl Values {
     }
 }
 
-/// The record: both loops and the symbol count.
+/// The record: both loops and the symbol count (R2, R18).
 #[derive(Clone, Copy, Debug)]
 pub struct Receiver {
     pub timing: SymbolSyncState<C32>,
     pub carrier: CostasState,
+    pub count: u64,
+}
+
+/// The record as it was before, whose count had 32 bits (R19).
+#[derive(Clone, Copy, Debug)]
+pub struct Receiver32 {
+    pub timing: SymbolSyncState<C32>,
+    pub carrier: CostasState,
     pub count: u32,
 }
+
+/// What stands in a line or an answer for a record that is too large (L13).
+pub const TOO_LARGE: u64 = 100;
 
 /// What a sample call answers. The number is 0 if it is not refused.
 #[derive(Clone, Copy, Debug, PartialEq)]
@@ -109,12 +120,34 @@ impl Receiver {
         let mut carried: Vec<C32> = fresh_output(produced);
         kernel.costas(&mut self.carrier, &found[..produced], &mut carried)?;
         output[..2 * produced].copy_from_slice(&flat(&carried));
-        let symbols = u32::try_from(produced).expect("a buffer's count");
-        self.count = self.count.saturating_add(symbols);
+        self.count = self.count.saturating_add(produced as u64);
         Ok(Answer {
             number: 0,
             consumed,
             produced,
+        })
+    }
+}
+
+/// The conversions, up (R20) and down (R21).
+impl Receiver32 {
+    pub fn widened(self) -> Receiver {
+        Receiver {
+            timing: self.timing,
+            carrier: self.carrier,
+            count: self.count.into(),
+        }
+    }
+}
+
+impl Receiver {
+    /// None if it is too large.
+    pub fn narrowed(self) -> Option<Receiver32> {
+        let count = u32::try_from(self.count).ok()?;
+        Some(Receiver32 {
+            timing: self.timing,
+            carrier: self.carrier,
+            count,
         })
     }
 }

@@ -29,7 +29,7 @@ fn lines_of(letters: &str) -> Vec<Line> {
 }
 
 /// The letters that begin a call.
-const CALLS: &str = "nuzpjr";
+const CALLS: &str = "nuzpjxr";
 
 /// The number of a set-up's line.
 fn number_of(line: &Line) -> u64 {
@@ -44,7 +44,7 @@ fn lengths(line: &Line) -> [u64; 3] {
 #[test]
 fn the_lines_have_53_bytes_and_are_the_same_every_time() {
     let text = check_width(recorded);
-    assert!(text.len() < 6_000_000);
+    assert!(text.len() < 6_500_000);
 }
 
 #[test]
@@ -132,22 +132,91 @@ fn a_refused_run_leaves_everything_as_it_was() {
 
 #[test]
 fn the_count_is_the_sum_of_the_symbols_up_to_the_top() {
-    let mut count = 0;
+    let mut count = 0u64;
     let mut tops = 0;
     for call in calls(&lines(), CALLS) {
         let Some(record) = among(call, "q").first().copied() else {
             continue;
         };
         count = match call[0].0 {
-            'r' => u64::from(u32::MAX).min(count + (call[0].2 >> 32)),
-            'p' => count,
+            'r' => count.saturating_add(call[0].2 >> 32),
+            'p' | 'x' => count,
             'j' => call[0].1,
             _ => 0,
         };
         assert_eq!(record.1, count);
-        tops += u64::from(count == u64::from(u32::MAX));
+        tops += u64::from(count == u64::MAX);
     }
     assert!(tops >= 10);
+}
+
+#[test]
+fn a_conversion_leaves_the_record_as_it_was_and_is_too_large_above_32_bits() {
+    let old = u64::from(u32::MAX);
+    let mut met = HashSet::new();
+    for two in calls(&lines(), CALLS).windows(2) {
+        let (before, call) = (two[0], two[1]);
+        if call[0].0 != 'x' {
+            continue;
+        }
+        assert_eq!(among(before, RECORD), among(call, RECORD));
+        let count = among(call, "q")[0].1;
+        let fits = [count, 0, 0];
+        let expected = if count <= old { fits } else { [0, 0, 100] };
+        assert_eq!([call[0].1, call[0].2, call[0].3], expected);
+        met.insert(count);
+    }
+    for count in [0, old - 1, old, old + 1, 1 << 33, u64::MAX] {
+        assert!(met.contains(&count), "{count}");
+    }
+}
+
+#[test]
+fn every_part_of_a_record_is_there_to_be_lost_by_a_conversion() {
+    for lines in [recorded(), exported()] {
+        let all: Vec<Line> = lines.lines().map(fields).collect();
+        let converted = calls(&all, CALLS);
+        let converted = converted.into_iter().filter(|call| call[0].0 == 'x');
+        let mut met = HashSet::new();
+        let mut counts = HashSet::new();
+        for call in converted {
+            let word = |letter| among(call, letter).first().copied();
+            met.insert((word("b").unwrap().3, word("e").unwrap().3 >> 33));
+            counts.insert(word("q").unwrap().1);
+        }
+        assert_eq!(met.len(), 6, "each detector under each constellation");
+        let old = u64::from(u32::MAX);
+        assert!(
+            [old - 1, old, u64::MAX - 1, u64::MAX]
+                .iter()
+                .all(|n| counts.contains(n))
+        );
+    }
+    let all = lines();
+    let held = |letter: &str, some: fn(&Line) -> bool| {
+        let converted = calls(&all, CALLS)
+            .into_iter()
+            .filter(|call| call[0].0 == 'x');
+        converted
+            .filter(|call| some(&among(call, letter)[0]))
+            .count()
+    };
+    // A midpoint that is held, an integrator that is at work, and a phase.
+    assert!(held("f", |line| line.2 % 2 == 1) > 10);
+    assert!(held("f", |line| line.1 != 0) > 50);
+    assert!(held("e", |line| line.3 % (1 << 32) != 0) > 50);
+}
+
+#[test]
+fn a_run_goes_on_from_a_converted_record_past_the_old_top() {
+    let old = u64::from(u32::MAX);
+    let all = lines();
+    let count = |call: &[Line]| among(call, "q")[0].1;
+    let passes = |two: &&[&[Line]]| {
+        let [before, after] = [two[0], two[1]];
+        [before[0].0, after[0].0] == ['x', 'r'] && count(before) <= old && count(after) > old
+    };
+    assert!(calls(&all, CALLS).windows(2).filter(passes).count() >= 5);
 }
 
 #[test]

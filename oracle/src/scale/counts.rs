@@ -59,6 +59,9 @@ pub struct Counts {
     /// Samples whose symbol numbers were compared, and those of them that read none.
     pub read: u64,
     pub none: u64,
+    /// Records that were converted, and those of them that were too large.
+    conversions: u64,
+    too_large: u64,
 }
 
 impl Counts {
@@ -99,6 +102,11 @@ impl Counts {
             }
             Op::Run(run) => self.call(run, number, seen, with_reference),
             Op::Reset | Op::Phase(_) | Op::Frequency(_) | Op::Count(_) => self.setters += 1,
+            // A loop by itself has no record to convert.
+            Op::Convert => {
+                self.conversions += u64::from(seen.found("narrowed").is_some());
+                self.too_large += u64::from(seen.found("narrowed").unwrap_or(0) != 0);
+            }
         }
     }
 
@@ -139,6 +147,8 @@ impl Counts {
         self.with_reference += other.with_reference;
         self.read += other.read;
         self.none += other.none;
+        self.conversions += other.conversions;
+        self.too_large += other.too_large;
         add_all(&mut self.zero_signs, &other.zero_signs);
         add_all(&mut self.nan_patterns, &other.nan_patterns);
         add_all(&mut self.numbers, &other.numbers);
@@ -197,6 +207,12 @@ pub fn table(rows: &[Counts]) -> String {
     let (read, none) = (all.read, all.none);
     writeln!(text, "symbol numbers compared: {read}, {none} of them none")
         .expect("text can be added to");
+    let (conversions, too_large) = (all.conversions, all.too_large);
+    writeln!(
+        text,
+        "records converted: {conversions}, {too_large} of them too large"
+    )
+    .expect("text can be added to");
     text
 }
 

@@ -15,7 +15,9 @@ pub trait Machine: Sized {
     fn reset(&mut self);
     fn set_phase(&mut self, _phase: u32) {}
     fn set_frequency(&mut self, _frequency: f64) {}
-    fn set_count(&mut self, _count: u32) {}
+    fn set_count(&mut self, _count: u64) {}
+    /// The record converted down, and up again where that gives one. What comes of the first goes into the sheet.
+    fn convert(&mut self, _sheet: &mut Sheet) {}
     /// A sample call.
     fn run(&mut self, input: &[f32], strobes: &mut [f32], output: &mut [f32]) -> Answer;
     /// Every field.
@@ -61,6 +63,7 @@ impl<M: Machine> Side for Held<M> {
             Op::Phase(phase) => machine.set_phase(*phase),
             Op::Frequency(frequency) => machine.set_frequency(*frequency),
             Op::Count(count) => machine.set_count(*count),
+            Op::Convert => machine.convert(&mut slate.sheet),
             Op::Run(run) => call(machine, run, slate),
         }
         machine.record(&mut slate.sheet);

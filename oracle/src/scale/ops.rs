@@ -13,7 +13,9 @@ pub enum Op {
     Phase(u32),
     Frequency(f64),
     /// The record with this symbol count, as a very long recording would leave it.
-    Count(u32),
+    Count(u64),
+    /// The record converted to one whose count has 32 bits, and back; if it is too large, it stays.
+    Convert,
     Run(Run),
 }
 

@@ -11,7 +11,9 @@ use crate::fields::{constellation_code, ted_code};
 use crate::kernels::costas::{CostasConstellation, CostasState};
 use crate::kernels::symbol_sync::{SymbolSync, SymbolSyncState, Ted};
 use crate::play::Kernel;
-use crate::receiver_runs::receiver::{self, Answer, Values, refused, symbol_code};
+use crate::receiver_runs::receiver::{
+    self, Answer, Receiver32, TOO_LARGE, Values, refused, symbol_code,
+};
 use crate::types::C32;
 use crate::{Fallback, Reference, carrier_runs, refusal, runs};
 
@@ -167,6 +169,20 @@ pub fn all(samples: usize) -> Answer {
     }
 }
 
+/// The fields of a receiver's loops.
+fn put_loops(timing: &SymbolSyncState<C32>, carrier: &CostasState, sheet: &mut Sheet) {
+    sheet.state(timing);
+    sheet.count("detector code", ted_code(timing.ted()).into());
+    sheet.state(carrier);
+    let code = constellation_code(carrier.constellation());
+    sheet.count("constellation code", code.into());
+}
+
+fn put_narrowed(old: &Receiver32, sheet: &mut Sheet) {
+    put_loops(&old.timing, &old.carrier, sheet);
+    sheet.count("count of 32 bits", old.count as usize);
+}
+
 /// The receiver (part R) over the original's loops.
 pub struct Receiver<K> {
     receiver: receiver::Receiver,
@@ -194,8 +210,31 @@ impl<K: Source> Machine for Receiver<K> {
         self.receiver.carrier.set_phase(phase);
     }
 
-    fn set_count(&mut self, count: u32) {
+    fn set_count(&mut self, count: u64) {
         self.receiver.count = count;
+    }
+
+    fn convert(&mut self, sheet: &mut Sheet) {
+        let Some(old) = self.receiver.narrowed() else {
+            sheet.count("narrowed", TOO_LARGE as usize);
+            let receiver::Receiver {
+                timing, carrier, ..
+            } = self.receiver;
+            let count = 0;
+            return sheet.zeros(|sheet| {
+                put_narrowed(
+                    &Receiver32 {
+                        timing,
+                        carrier,
+                        count,
+                    },
+                    sheet,
+                )
+            });
+        };
+        sheet.count("narrowed", 0);
+        put_narrowed(&old, sheet);
+        self.receiver = old.widened();
     }
 
     fn run(&mut self, input: &[f32], strobes: &mut [f32], output: &mut [f32]) -> Answer {
@@ -204,17 +243,8 @@ impl<K: Source> Machine for Receiver<K> {
     }
 
     fn record(&self, sheet: &mut Sheet) {
-        let receiver::Receiver {
-            timing,
-            carrier,
-            count,
-        } = &self.receiver;
-        sheet.state(timing);
-        sheet.count("detector code", ted_code(timing.ted()).into());
-        sheet.state(carrier);
-        let code = constellation_code(carrier.constellation());
-        sheet.count("constellation code", code.into());
-        sheet.count("count", *count as usize);
+        put_loops(&self.receiver.timing, &self.receiver.carrier, sheet);
+        sheet.count("count", self.receiver.count as usize);
     }
 
     fn readings(&self, sheet: &mut Sheet) {

@@ -174,8 +174,19 @@ impl Machine for Receiver {
         self.0 = unsafe { ffi::trr_receiver_set_phase(self.0, phase) };
     }
 
-    fn set_count(&mut self, count: u32) {
+    fn set_count(&mut self, count: u64) {
         self.0.count = count;
+    }
+
+    fn convert(&mut self, sheet: &mut Sheet) {
+        let answer = unsafe { ffi::trr_receiver_narrow(self.0) };
+        sheet.count("narrowed", answer.number as usize);
+        put_timing(&answer.receiver.timing, sheet);
+        put_carrier(&answer.receiver.carrier, sheet);
+        sheet.count("count of 32 bits", answer.receiver.count as usize);
+        if answer.number == 0 {
+            self.0 = unsafe { ffi::trr_receiver_widen(answer.receiver) };
+        }
     }
 
     fn run(&mut self, input: &[f32], strobes: &mut [f32], output: &mut [f32]) -> Answer {

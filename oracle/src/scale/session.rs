@@ -144,9 +144,16 @@ impl Session {
             }
             9..14 if kind == Kind::Carrier => Op::Frequency(self.frequency()),
             9 if kind == Kind::Receiver => {
-                let below = random.up_to(40) as u32;
-                Op::Count(u32::MAX - below)
+                let beside = random.up_to(40) as u64;
+                let old = u64::from(u32::MAX);
+                Op::Count(random.pick(&[
+                    old - beside,
+                    old - beside,
+                    old + beside,
+                    u64::MAX - beside,
+                ]))
             }
+            10..13 if kind == Kind::Receiver => Op::Convert,
             14.. if kind != Kind::Real => {
                 self.calls -= 1;
                 Op::Run(blocks::refused(random, kind))

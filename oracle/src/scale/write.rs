@@ -24,6 +24,7 @@ fn line(kind: Kind, op: &Op) -> String {
         Op::Phase(phase) => format!("{name} phase {phase:08x}"),
         Op::Frequency(frequency) => format!("{name} frequency {:016x}", frequency.to_bits()),
         Op::Count(count) => format!("{name} count {count}"),
+        Op::Convert => format!("{name} convert"),
         Op::Run(run) => format!("{name} {}{}", lent(kind, run), words(&run.input)),
     }
 }

@@ -26,7 +26,7 @@ struct Buffered<R> {
 }
 
 /// Every field of both loops, and the symbol count.
-fn state(timing: &SymbolSyncState<C32>, carrier: &CostasState, count: u32) -> String {
+fn state(timing: &SymbolSyncState<C32>, carrier: &CostasState, count: u64) -> String {
     let (timing, carrier) = (state_line(timing), state_line(carrier));
     format!("{timing} {carrier} count={count}")
 }
@@ -43,7 +43,7 @@ impl Loop for Buffered<Receiver> {
         let (from, to) = (&strobes[..produced], &mut output[..produced]);
         let carried = Fallback.costas(&mut r.carrier, from, to);
         carried.expect("as many places as strobes");
-        r.count = r.count.saturating_add(produced as u32);
+        r.count = r.count.saturating_add(produced as u64);
         progress
     }
 

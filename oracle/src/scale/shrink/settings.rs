@@ -26,7 +26,7 @@ impl Shrinker<'_> {
             Op::SetUp(_) => return self.plainer_set_up(at),
             Op::Phase(phase) if phase != 0 => Op::Phase(0),
             Op::Frequency(frequency) if frequency.to_bits() != 0 => Op::Frequency(0.0),
-            Op::Count(count) if count != u32::MAX => Op::Count(u32::MAX),
+            Op::Count(count) if count != u64::MAX => Op::Count(u64::MAX),
             _ => return,
         };
         self.replace(at, plainer);

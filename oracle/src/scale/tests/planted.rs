@@ -160,7 +160,7 @@ fn a_set_up_s_number() {
 /// Has a symbol count that wraps.
 fn wrapped_count(_: &Op, slate: &mut Slate, _: &mut usize) {
     slate.sheet.change("count", |value| match value {
-        Value::Count(0xffff_ffff) => Value::Count(0),
+        Value::Count(usize::MAX) => Value::Count(0),
         other => other,
     });
 }
@@ -172,9 +172,26 @@ fn a_count_that_wraps() {
     assert_eq!(found.lane.kind, Kind::Receiver, "{text}");
     assert!(found.ops.len() <= 3, "{text}");
     assert!(
-        text.contains("# count: ours 0, Fallback 4294967295"),
+        text.contains("# count: ours 0, Fallback 18446744073709551615"),
         "{text}"
     );
+}
+
+/// Converts what is too large, as if its count fitted.
+fn cut_count(op: &Op, slate: &mut Slate, _: &mut usize) {
+    if matches!(op, Op::Convert) {
+        slate.sheet.change("narrowed", |_| Value::Count(0));
+    }
+}
+
+#[test]
+fn a_conversion_that_cuts_the_count() {
+    let found = shrunk(|kind| planted(kind, cut_count));
+    let text = found.text();
+    assert_eq!(found.lane.kind, Kind::Receiver, "{text}");
+    assert!(found.ops.len() <= 4, "{text}");
+    assert!(text.contains("receiver convert"), "{text}");
+    assert!(text.contains("# narrowed: ours 0, Fallback 100"), "{text}");
 }
 
 /// Has a wrong number for a symbol on the lower half of the imaginary axis.
