@@ -119,9 +119,18 @@ int main(void)
         return 1;
     }
     trr_receiver_readings_answer readings = trr_receiver_readings(receiver);
-    printf("%" PRIu32 " symbols\n", readings.count);
+    printf("%" PRIu64 " symbols\n", readings.count);
     printf("%.4f samples per symbol\n", readings.timing.sps_estimate);
     printf("%.5f cycles per symbol\n", readings.carrier.frequency);
     printf("%s\n", readings.carrier.locked ? "locked" : "not locked");
+
+    /* The record that a program of the earlier library takes, and back. */
+    trr_receiver_narrow_answer earlier = trr_receiver_narrow(receiver);
+    if (earlier.number != TRR_DONE) {
+        fprintf(stderr, "there is no earlier record: %s\n", trr_number_text(earlier.number));
+        return 1;
+    }
+    receiver = trr_receiver_widen(earlier.receiver);
+    printf("%" PRIu64 " symbols after a conversion down and up\n", receiver.count);
     return 0;
 }

@@ -29,6 +29,7 @@ static trr_receiver_set_up_answer receiver;
 static trr_timing_readings_answer timing_readings;
 static trr_carrier_readings_answer carrier_readings;
 static trr_receiver_readings_answer receiver_readings;
+static trr_receiver_narrow_answer earlier;
 static trr_progress progress;
 static trr_counts counts;
 static uint32_t number;
@@ -64,8 +65,10 @@ static void receiver_receive(void)
     counts = trr_receiver_receive(&receiver.receiver, input, COUNT, strobes, COUNT, output, COUNT);
 }
 static void symbol_number(void) { symbol = trr_symbol_number(TRR_PSK8, output[0], output[1]); }
+static void receiver_narrow(void) { earlier = trr_receiver_narrow(receiver.receiver); }
+static void receiver_widen(void) { receiver.receiver = trr_receiver_widen(earlier.receiver); }
 
-/* The functions, each loop's set-up before what needs its state. */
+/* The functions, each loop's set-up before what needs its state, and the earlier record before its use. */
 static const struct {
     void (*call)(void);
     const char *name;
@@ -91,6 +94,8 @@ static const struct {
     {receiver_read, "trr_receiver_readings"},
     {receiver_receive, "trr_receiver_receive"},
     {symbol_number, "trr_symbol_number"},
+    {receiver_narrow, "trr_receiver_narrow"},
+    {receiver_widen, "trr_receiver_widen"},
 };
 
 /* How many bytes of a painted stack a call takes. It is made once before: the loader may look up a function

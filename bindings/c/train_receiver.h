@@ -7,9 +7,12 @@
  *
  * What holds for every function:
  *
- * - Records. A record that is handed to a function must come from a set-up, a reset, a setter or a run of
- *   this library (A9). A refused set-up gives none. The fields may be read. Nobody but the library may
- *   write them. A record may be copied; the copy is a record too.
+ * - Records. A record that is handed to a function must come from a set-up, a reset, a setter or a run of this
+ *   library, or be converted from such a record, be it this library's or the earlier one's (A9, R23). A
+ *   conversion of anything else gives nothing that may be used. A refused set-up gives no record, and neither
+ *   does a conversion that is too large: its zeros are none, and converted up they are none either. Readings
+ *   and conversions themselves ask less: any record whose truth values (bool) are 0 or 1. The fields may be
+ *   read. Nobody but the library may write them. A record may be copied; the copy is a record too.
  * - Padding. Some records have bytes between their fields. They are no part of the record, and two
  *   equal records may differ in them. Compare records field by field, never with memcmp.
  * - Refused set-ups. The answer's record then holds zeros and must not be used (L3). What a call does with
@@ -30,6 +33,19 @@
  *   carrier's (R4). A run looks for odd counts first (8), then for unequal lengths (7) (A5). A refused
  *   set-up gives no record (A6). A refused run gives counts of 0 (a carrier's answer has no counts) and
  *   leaves its record and every buffer as found (A7).
+ * - Earlier records. A receiver's symbol count had 32 bits before. Such a record is a trr_receiver_32 here
+ *   (R19). No function takes one but trr_receiver_widen, which makes a trr_receiver of it;
+ *   trr_receiver_narrow goes back. Both records have 232 bytes, and their counts the offset 224; the earlier
+ *   answer of trr_receiver_readings and this one have 128 bytes, and their counts the offset 120. Where the
+ *   upper half of the count is, the earlier ones have four bytes of padding, with any content. So no linker
+ *   and no size of a file tells them apart:
+ *   - Header and library must be of one version, in both directions. Compile every program anew, and write
+ *     the library anew too (`rt staticlib train_receiver`). With the earlier header a program sees the lower
+ *     half of the count; with this header and an earlier library the upper half of the count is rubbish.
+ *   - Do not read an earlier record's bytes into a trr_receiver, nor give a trr_receiver's bytes to an earlier
+ *     program, which would see the lower half of the count. Convert.
+ *   - `uint32_t n = readings.count` compiles and cuts the count (-Wconversion finds it). PRIu32 is wrong for
+ *     the count (-Wformat finds it): it is PRIu64 now. TRR_COUNT_BITS tells this header from earlier ones.
  * - Codes. A detector is a code of enum trr_detector, a constellation one of enum trr_constellation.
  *   Any other code reads as the last one of its enum (L4). The library writes none but the named codes.
  * - Threads. The library keeps nothing between calls (L7): the record holds the whole state. Two threads
@@ -124,7 +140,15 @@ enum trr_number {
     TRR_ODD = 8
 };
 
-/** What a number says, in English: the word of its refusal and what is wrong. The text of 0 is "done". */
+/** What trr_receiver_narrow answers beside TRR_DONE (L13). It is no refusal: those have the numbers from 1 to 17,
+ *  of which 9 to 17 are kept for later ones. */
+enum trr_conversion {
+    /** The symbol count does not fit into 32 bits: it is above 4,294,967,295 (R21). */
+    TRR_TOO_LARGE = 100
+};
+
+/** What a number says, in English: the word of its refusal, or "too large", and what is wrong. The text of 0 is
+ *  "done". */
 TRR_MUST_USE static inline const char *trr_number_text(uint32_t number)
 {
     switch (number) {
@@ -149,6 +173,8 @@ TRR_MUST_USE static inline const char *trr_number_text(uint32_t number)
                "equally long";
     case TRR_ODD:
         return "odd: the count of f32 of a complex buffer is odd";
+    case TRR_TOO_LARGE:
+        return "too large: the symbol count does not fit into 32 bits";
     default:
         return "not a number of this library";
     }
@@ -493,13 +519,16 @@ uint32_t trr_carrier_run(trr_carrier *x,
 
 /* ---- Receiver: types */
 
+/** How many bits a receiver's symbol count has (R18). Headers before this one have no such name. */
+#define TRR_COUNT_BITS 64
+
 /** The receiver record: both loops and the symbol count (R2). */
 typedef struct trr_receiver {
     trr_complex_timing timing;
     trr_carrier carrier;
-    /** Symbols produced since the set-up or the last reset. From 4,294,967,295 on the count stays there
-     *  (R6). */
-    uint32_t count;
+    /** Symbols produced since the set-up or the last reset. From 18,446,744,073,709,551,615 on the count
+     *  stays there (R18). */
+    uint64_t count;
 } trr_receiver;
 
 /** The answer of trr_receiver_set_up and of trr_receiver_set_up_unnamed. */
@@ -515,8 +544,8 @@ typedef struct trr_receiver_set_up_answer {
 typedef struct trr_receiver_readings_answer {
     trr_timing_readings_answer timing;
     trr_carrier_readings_answer carrier;
-    /** Symbols produced since the set-up or the last reset, at most 4,294,967,295 (R6). */
-    uint32_t count;
+    /** Symbols produced since the set-up or the last reset, at most 18,446,744,073,709,551,615 (R18). */
+    uint64_t count;
 } trr_receiver_readings_answer;
 
 /* ---- Receiver */
@@ -547,7 +576,7 @@ trr_receiver_readings_answer trr_receiver_readings(trr_receiver x);
 /**
  * Receives complex samples. The timing loop makes strobes of the input and writes them to the strobe buffer.
  * Then the carrier loop makes symbols of these strobes and writes them to the output (R1). The new receiver
- * is left in the record, its symbol count included (R2, R6). The counts are those of timing: samples
+ * is left in the record, its symbol count included (R2, R18). The counts are those of timing: samples
  * consumed, symbols produced (R5). Numbers: 0, 8 where one of the three counts is odd, 7 where the strobe
  * buffer and the output are not equally long (R10). A refused call leaves the record, the strobe buffer and
  * the output as found (A7).
@@ -575,6 +604,54 @@ trr_counts trr_receiver_receive(trr_receiver *x,
 TRR_MUST_USE
 size_t trr_symbol_number(uint32_t constellation, float re, float im);
 
+/* ---- Earlier records: types */
+
+/**
+ * The receiver record as it was before, with a symbol count of 32 bits (R19, L12). The bytes of a trr_receiver
+ * that a program of the earlier library stored are those of a trr_receiver_32: read them into one with memcpy
+ * or fread. No function takes it but trr_receiver_widen.
+ */
+typedef struct trr_receiver_32 {
+    trr_complex_timing timing;
+    trr_carrier carrier;
+    /** Symbols produced since the set-up or the last reset. The count stopped at 4,294,967,295 (R19). */
+    uint32_t count;
+} trr_receiver_32;
+
+/** The answer of trr_receiver_narrow (L13). */
+typedef struct trr_receiver_narrow_answer {
+    /** TRR_DONE or TRR_TOO_LARGE. */
+    uint32_t number;
+    /** The record where the number is 0. Otherwise it is no record: all its fields are 0, and it must not be
+     *  used (L3). */
+    trr_receiver_32 receiver;
+} trr_receiver_narrow_answer;
+
+/* ---- Earlier records: conversion */
+
+/**
+ * Answers the receiver of an earlier record: the same count, and every other field as it is (L12). Every record
+ * converts (R20). A count that stopped at 4,294,967,295 goes on from there.
+ *
+ * The record need not be one that the library has given, but its truth values (bool) must be 0 or 1. If it is one
+ * that this library or the earlier one has given, the receiver serves as one that a run has given (R23, A9).
+ * Converted down again, it gives the record back (R22).
+ */
+TRR_MUST_USE
+trr_receiver trr_receiver_widen(trr_receiver_32 x);
+
+/**
+ * Answers the earlier record of a receiver: the same count, and every other field as it is (L13). Numbers: 0,
+ * and 100 (TRR_TOO_LARGE) where the count is above 4,294,967,295; then there is no record (R21). The receiver
+ * that is handed in stays as it was.
+ *
+ * The record need not be one that the library has given, but its truth values (bool) must be 0 or 1. If it is one
+ * that the library has given, the answer's record serves the earlier library as one that a run has given (R23,
+ * A9). Converted up again, it gives the receiver back (R22).
+ */
+TRR_MUST_USE
+trr_receiver_narrow_answer trr_receiver_narrow(trr_receiver x);
+
 /* ---- Layout, as the library has it on x86-64 (L6) */
 
 #if defined(__cplusplus) && __cplusplus >= 201103L
@@ -587,6 +664,8 @@ size_t trr_symbol_number(uint32_t constellation, float re, float im);
 #define TRR_SIZE(type, bytes) TRR_CHECK(size_of_##type, sizeof(type) == (bytes))
 #define TRR_OFFSET(type, field, bytes) \
     TRR_CHECK(offset_of_##type##_##field, offsetof(type, field) == (bytes))
+#define TRR_FIELD_SIZE(type, field, bytes) \
+    TRR_CHECK(size_of_##type##_##field, sizeof(((type *)0)->field) == (bytes))
 
 TRR_SIZE(bool, 1);
 TRR_SIZE(size_t, 8);
@@ -700,6 +779,7 @@ TRR_OFFSET(trr_carrier_readings_answer, locked, 48);
 TRR_SIZE(trr_receiver, 232);
 TRR_OFFSET(trr_receiver, carrier, 160);
 TRR_OFFSET(trr_receiver, count, 224);
+TRR_FIELD_SIZE(trr_receiver, count, 8);
 
 TRR_SIZE(trr_receiver_set_up_answer, 240);
 TRR_OFFSET(trr_receiver_set_up_answer, receiver, 8);
@@ -707,7 +787,22 @@ TRR_OFFSET(trr_receiver_set_up_answer, receiver, 8);
 TRR_SIZE(trr_receiver_readings_answer, 128);
 TRR_OFFSET(trr_receiver_readings_answer, carrier, 64);
 TRR_OFFSET(trr_receiver_readings_answer, count, 120);
+TRR_FIELD_SIZE(trr_receiver_readings_answer, count, 8);
 
+TRR_CHECK(bits_of_trr_receiver_count, 8 * sizeof(((trr_receiver *)0)->count) == TRR_COUNT_BITS);
+TRR_CHECK(bits_of_trr_receiver_readings_answer_count,
+          8 * sizeof(((trr_receiver_readings_answer *)0)->count) == TRR_COUNT_BITS);
+
+/* As the earlier library had its receiver (R19): these numbers stay. */
+TRR_SIZE(trr_receiver_32, 232);
+TRR_OFFSET(trr_receiver_32, carrier, 160);
+TRR_OFFSET(trr_receiver_32, count, 224);
+TRR_FIELD_SIZE(trr_receiver_32, count, 4);
+
+TRR_SIZE(trr_receiver_narrow_answer, 240);
+TRR_OFFSET(trr_receiver_narrow_answer, receiver, 8);
+
+#undef TRR_FIELD_SIZE
 #undef TRR_OFFSET
 #undef TRR_SIZE
 #undef TRR_CHECK

@@ -1,6 +1,7 @@
 //! Makes a small QPSK signal that ends in silence, receives it in blocks and prints the symbol numbers. The
 //! program `bindings/c/example.c` does the same and prints the same text.
 
+use std::error::Error;
 use train_receiver::{
     CarrierValues, Constellation, Detector, Receiver, Refusal, TimingValues, symbol_number,
 };
@@ -25,7 +26,7 @@ const POINTS: [(f64, f64); 4] = [(1.0, 1.0), (-1.0, 1.0), (-1.0, -1.0), (1.0, -1
 /// of a turn a symbol.
 const TURN: (f64, f64) = (0.9999950652018582, 0.0031415874858795635);
 
-fn main() -> Result<(), Refusal> {
+fn main() -> Result<(), Box<dyn Error>> {
     let timing = TimingValues {
         sps: SPS as f64,
         ted: Detector::Gardner,
@@ -57,6 +58,12 @@ fn main() -> Result<(), Refusal> {
         "not locked"
     };
     println!("{lock}");
+
+    // The record that a program of the earlier library takes, and back.
+    let earlier = receiver.narrowed()?;
+    receiver = earlier.widened();
+    let count = receiver.count();
+    println!("{count} symbols after a conversion down and up");
     Ok(())
 }
 

@@ -5,8 +5,12 @@
 //!
 //! What every caller must hold to:
 //!
-//! - A record must come from a set-up, a reset, a setter or a run of the library (A9). Nobody else writes
-//!   it. A refused set-up gives none: the zeros in its place must not be used (L3).
+//! - A record must come from a set-up, a reset, a setter or a run of the library, or be converted from such a
+//!   record, be it this library's or the earlier one's (A9, R23). Nobody else writes it. A conversion of
+//!   anything else gives nothing that may be used. A refused set-up gives no record, and neither does a
+//!   conversion that is too large: the zeros in its place must not be used (L3, L13), and converted up they
+//!   are no record either. Readings and conversions themselves ask less: any record whose truth values are
+//!   0 or 1.
 //! - No pointer is null, even where the count is 0. The record and the buffers of one call do not
 //!   overlap.
 //! - Counts of buffers are counts of f32, two for a complex sample. `consumed` and `produced` count samples
@@ -39,6 +43,10 @@
 
 /// What `trr_symbol_number` answers where a symbol has no number (L11).
 pub const NO_SYMBOL: usize = 255;
+
+/// What `trr_receiver_narrow` answers where the symbol count does not fit into 32 bits (L13). It is no
+/// refusal's number.
+pub const TOO_LARGE: u32 = 100;
 
 /// A complex sample: the real part, then the imaginary one (A1).
 #[derive(Clone, Copy, Debug)]
@@ -301,8 +309,8 @@ pub struct Receiver {
     pub timing: Timing<C32>,
     /// The carrier loop.
     pub carrier: Carrier,
-    /// Symbols produced since the set-up or the last reset, at most 4,294,967,295 (R6).
-    pub count: u32,
+    /// Symbols produced since the set-up or the last reset, at most 18,446,744,073,709,551,615 (R18).
+    pub count: u64,
 }
 
 /// The answer of a receiver's set-up. Where the number is not 0 there is no receiver, only zeros (L3).
@@ -323,8 +331,32 @@ pub struct ReceiverReadings {
     pub timing: TimingReadings,
     /// What the carrier loop tells.
     pub carrier: CarrierReadings,
-    /// Symbols produced since the set-up or the last reset, at most 4,294,967,295 (R6).
+    /// Symbols produced since the set-up or the last reset, at most 18,446,744,073,709,551,615 (R18).
+    pub count: u64,
+}
+
+/// The receiver record as it was before, with a symbol count of 32 bits (R19, L12). The bytes of a record that
+/// a program of the earlier library stored are those of this one. It is as large as [`Receiver`], and the
+/// count has the same offset: bytes do not tell which of the two they are.
+#[derive(Clone, Copy, Debug)]
+#[repr(C)]
+pub struct Receiver32 {
+    /// The timing loop.
+    pub timing: Timing<C32>,
+    /// The carrier loop.
+    pub carrier: Carrier,
+    /// Symbols produced since the set-up or the last reset, at most 4,294,967,295 (R19).
     pub count: u32,
+}
+
+/// The answer of a conversion down. Where the number is not 0 there is no record, only zeros (L13).
+#[derive(Clone, Copy, Debug)]
+#[repr(C)]
+pub struct ReceiverNarrowed {
+    /// 0 if the receiver is converted, else [`TOO_LARGE`].
+    pub number: u32,
+    /// The record.
+    pub receiver: Receiver32,
 }
 
 unsafe extern "C" {
@@ -434,4 +466,15 @@ unsafe extern "C" {
     /// The symbol number of an output sample (R11 to R13), or [`NO_SYMBOL`] (R16, L11).
     #[must_use]
     pub fn trr_symbol_number(constellation: u32, re: f32, im: f32) -> usize;
+
+    // Earlier records.
+
+    /// The receiver of an earlier record, with its count and every other field as it is (L12). Every record
+    /// converts (R20).
+    #[must_use = "the record that is handed in stays as it was"]
+    pub fn trr_receiver_widen(x: Receiver32) -> Receiver;
+    /// The earlier record of a receiver, with its count and every other field as it is (L13). Numbers: 0, and
+    /// [`TOO_LARGE`] where the count is above 4,294,967,295 (R21).
+    #[must_use = "the record that is handed in stays as it was"]
+    pub fn trr_receiver_narrow(x: Receiver) -> ReceiverNarrowed;
 }

@@ -5,8 +5,8 @@ use crate::ffi::{self, Progress};
 use crate::refusal::Refusal;
 use crate::values::{CarrierValues, TimingValues};
 
-/// A receiver. Only [`set_up`](Receiver::set_up) and [`set_up_unnamed`](Receiver::set_up_unnamed) make
-/// one.
+/// A receiver. Only [`set_up`](Receiver::set_up), [`set_up_unnamed`](Receiver::set_up_unnamed), the conversion
+/// of a [`Receiver32`](crate::Receiver32) and [`from_record`](Receiver::from_record) make one.
 #[derive(Clone, Debug)]
 pub struct Receiver {
     record: ffi::Receiver,
@@ -36,9 +36,21 @@ impl Receiver {
 
     fn ready(answer: ffi::ReceiverSetUp) -> Result<Self, Refusal> {
         Refusal::check(answer.number)?;
-        Ok(Receiver {
-            record: answer.receiver,
-        })
+        // SAFETY: the set-up is not refused, so that it has given a record (L3).
+        Ok(unsafe { Receiver::from_record(answer.receiver) })
+    }
+
+    /// Takes a record, such as one that a program of this library stored. One that a program of the earlier
+    /// library stored goes to [`Receiver32::from_record`](crate::Receiver32::from_record): the bytes do not
+    /// tell which of the two they are.
+    ///
+    /// # Safety
+    ///
+    /// The record must be one that this library has given, or be converted from such a one, be it this library's
+    /// or the earlier one's (A9), field by field. What stands in the bytes between its fields does not matter.
+    #[must_use]
+    pub unsafe fn from_record(record: ffi::Receiver) -> Self {
+        Receiver { record }
     }
 
     /// Makes the receiver as it was just after its set-up: both loops are fresh, and the symbol count is 0
@@ -140,10 +152,10 @@ impl Receiver {
         Constellation::from_code(self.readings().carrier.constellation)
     }
 
-    /// Symbols produced since the set-up or the last reset. From 4,294,967,295 on the count stays there
-    /// (R6).
+    /// Symbols produced since the set-up or the last reset. From 18,446,744,073,709,551,615 on the count
+    /// stays there (R18).
     #[must_use]
-    pub fn count(&self) -> u32 {
+    pub fn count(&self) -> u64 {
         self.readings().count
     }
 

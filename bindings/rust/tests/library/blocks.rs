@@ -1,20 +1,9 @@
 //! A recording in blocks gives the same symbols as in one call.
 
-use crate::{CONSTELLATIONS, DETECTORS, carrier, text, timing};
+use crate::{CONSTELLATIONS, DETECTORS, carrier, noise, text, timing};
 use train_receiver::{RealTiming, Receiver};
 
 const SAMPLES: usize = 600;
-
-/// Numbers from -1 to 1 that a small generator gives.
-fn noise(length: usize) -> Vec<f32> {
-    let mut state = 1u32;
-    (0..length)
-        .map(|_| {
-            state = state.wrapping_mul(1_664_525).wrapping_add(1_013_904_223);
-            (state >> 8) as f32 / 8_388_608.0 - 1.0
-        })
-        .collect()
-}
 
 #[test]
 fn real_timing() {

@@ -45,13 +45,18 @@ fn texts() {
             for (uint32_t number = 0; number < 10; number++) {
                 printf("%s\n", trr_number_text(number));
             }
+            for (uint32_t number = 99; number < 102; number++) {
+                printf("%s\n", trr_number_text(number));
+            }
             return 0;
         }
     "#;
     let printed = Program::of_text("texts.c", source).printed();
     let mut expected = vec!["done".to_string()];
     expected.extend(Refusal::ALL.map(|refusal| refusal.to_string()));
-    expected.push("not a number of this library".to_string());
+    let none = "not a number of this library";
+    let too_large = "too large: the symbol count does not fit into 32 bits";
+    expected.extend([none, none, too_large, none].map(String::from));
     assert_eq!(printed.lines().collect::<Vec<_>>(), expected);
 }
 
@@ -70,6 +75,8 @@ fn named_codes() {
     }
     header_has("TRR_NO_SYMBOL", 255);
     assert_eq!(ffi::NO_SYMBOL, 255);
+    header_has("TRR_TOO_LARGE", 100);
+    assert_eq!(ffi::TOO_LARGE, 100);
 }
 
 #[test]

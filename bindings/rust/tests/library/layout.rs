@@ -1,10 +1,10 @@
 //! The layout is the one that the C header states.
 
-use std::mem::{offset_of, size_of};
+use std::mem::{align_of, offset_of, size_of};
 use train_receiver::ffi::{
     C32, Carrier, CarrierParams, CarrierReadings, CarrierSetUp, CarrierTrack, CarrierValues, Clock,
-    Counts, Hist, Lock, Nco, Progress, Receiver, ReceiverReadings, ReceiverSetUp, Timing,
-    TimingParams, TimingReadings, TimingSetUp, TimingTrack, TimingValues,
+    Counts, Hist, Lock, Nco, Progress, Receiver, Receiver32, ReceiverNarrowed, ReceiverReadings,
+    ReceiverSetUp, Timing, TimingParams, TimingReadings, TimingSetUp, TimingTrack, TimingValues,
 };
 
 const HEADER: &str = include_str!("../../../c/train_receiver.h");
@@ -24,6 +24,22 @@ macro_rules! stated {
             offset_of!($type, $field)
         ));)*
         lines
+    }};
+}
+
+/// The size of the field that a function reads.
+fn field_size<T, F>(_: fn(T) -> F) -> usize {
+    size_of::<F>()
+}
+
+/// What the header states of a symbol count: its size, which no offset shows.
+macro_rules! counted {
+    ($type:ty as $name:ident) => {{
+        let bytes = field_size(|x: $type| x.count);
+        vec![format!(
+            "TRR_FIELD_SIZE({}, count, {bytes});",
+            stringify!($name)
+        )]
     }};
 }
 
@@ -59,19 +75,48 @@ fn here() -> Vec<String> {
         stated!(CarrierReadings as trr_carrier_readings_answer:
             constellation values frequency phase lock_level locked),
         stated!(Receiver as trr_receiver: timing carrier count),
+        counted!(Receiver as trr_receiver),
         stated!(ReceiverSetUp as trr_receiver_set_up_answer: number receiver),
         stated!(ReceiverReadings as trr_receiver_readings_answer: timing carrier count),
+        counted!(ReceiverReadings as trr_receiver_readings_answer),
+        stated!(Receiver32 as trr_receiver_32: timing carrier count),
+        counted!(Receiver32 as trr_receiver_32),
+        stated!(ReceiverNarrowed as trr_receiver_narrow_answer: number receiver),
     ]
     .concat()
 }
 
 #[test]
 fn sizes_and_offsets() {
+    let checks = ["TRR_SIZE(", "TRR_OFFSET(", "TRR_FIELD_SIZE("];
     let header: Vec<&str> = HEADER
         .lines()
-        .filter(|line| line.starts_with("TRR_SIZE(") || line.starts_with("TRR_OFFSET("))
+        .filter(|line| checks.iter().any(|check| line.starts_with(check)))
         .collect();
     assert_eq!(header, here());
+}
+
+/// The numbers are those of the receiver record of the earlier library (R19 of docs/SPECIFICATION.md).
+#[test]
+fn the_earlier_record_keeps_its_layout() {
+    assert_eq!(
+        (size_of::<Receiver32>(), align_of::<Receiver32>()),
+        (232, 8)
+    );
+    assert_eq!(offset_of!(Receiver32, timing), 0);
+    assert_eq!(offset_of!(Receiver32, carrier), 160);
+    assert_eq!(offset_of!(Receiver32, count), 224);
+    assert_eq!(field_size(|x: Receiver32| x.count), 4);
+}
+
+/// R18. The header itself checks its counts against the name.
+#[test]
+fn the_header_names_the_bits_of_the_count() {
+    let bits = 8 * field_size(|x: Receiver| x.count);
+    assert_eq!(bits, 64);
+    assert_eq!(bits, 8 * field_size(|x: ReceiverReadings| x.count));
+    let line = format!("#define TRR_COUNT_BITS {bits}");
+    assert_eq!(HEADER.lines().filter(|l| *l == line).count(), 1);
 }
 
 #[test]
@@ -92,5 +137,5 @@ fn no_field_is_left_out() {
         assert_eq!(fields, stated(name), "{name}");
         types += 1;
     }
-    assert_eq!(types, 26);
+    assert_eq!(types, 28);
 }

@@ -1,7 +1,7 @@
 //! Set-ups: which values are refused, with which number, and which are accepted. Labels are those of
 //! docs/SPECIFICATION.md.
 
-use crate::{CONSTELLATIONS, carrier, text, timing};
+use crate::{CONSTELLATIONS, carrier, timing, zeros};
 use train_receiver::{
     Carrier, CarrierValues, ComplexTiming, Constellation, Detector, RealTiming, Receiver, Refusal,
     TimingValues, ffi,
@@ -170,18 +170,8 @@ fn zeros_in_the_place_of_a_state() {
     };
     assert_eq!((real.number, complex.number), (1, 1));
     assert_eq!((carrier.number, receiver.number), (2, 1));
-    for text in [
-        text(&real.state),
-        text(&complex.state),
-        text(&carrier.state),
-        text(&receiver.receiver),
-    ] {
-        let values: Vec<&str> = text
-            .split([' ', ',', '{', '}'])
-            .filter(|word| !word.is_empty() && !word.ends_with(':'))
-            .filter(|word| !word.starts_with(char::is_uppercase))
-            .collect();
-        let zero = |word: &&str| ["0", "0.0", "false"].contains(word);
-        assert!(values.len() > 9 && values.iter().all(zero), "{text}");
-    }
+    assert!(zeros(&real.state), "{real:?}");
+    assert!(zeros(&complex.state), "{complex:?}");
+    assert!(zeros(&carrier.state), "{carrier:?}");
+    assert!(zeros(&receiver.receiver), "{receiver:?}");
 }

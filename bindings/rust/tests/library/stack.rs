@@ -20,5 +20,5 @@ fn no_more_than_the_header_says() {
         assert!(bytes < bound, "{line}");
         functions += 1;
     }
-    assert_eq!(functions, 21, "{printed}");
+    assert_eq!(functions, 23, "{printed}");
 }
