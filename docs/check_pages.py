@@ -5,11 +5,11 @@
 
 Every label that is cited is one of SPECIFICATION.md, and every label of it has a row in PROMISES.md. Each row of
 PROMISES.md has at most 300 characters, and what it names is defined where it says: theorems and definitions in the
-row's files, functions in the code of its crates, must-fail edits in theirs. Each edit is in a row, and each label that
-answers a sentence of the request stands in the last table. The statements of THEOREMS.md are those of the files. The
-links of every page lead somewhere, and so do the paths that it names. Prose is wrapped. No file but PROMISES.md speaks
-of the request's papers by their numbers. It prints what is wrong; the status is then 1. It cannot tell whether a
-theorem says what its label says.
+row's files, functions in the code of its crates, must-fail edits in theirs. Each edit is in a row, and each label
+that answers a sentence of the request stands in the last table. The statements of THEOREMS.md are those of the files.
+The links of every page lead somewhere, and so do the paths that it names. Prose is wrapped. No file but PROMISES.md
+speaks of the request's papers by their numbers. Each old piece of an edit stands once in its file. It prints what is
+wrong; the status is then 1. It cannot tell whether a theorem says what its label says.
 """
 
 import re
@@ -152,6 +152,24 @@ def all_edits():
     return {f"{path.parent.parent.name}/{path.stem}" for path in (ROOT / "crates").glob("*/must-fail/*.edit")}
 
 
+def edits_apply():
+    """Each old piece of an edit stands once in its file, after the pieces before it were replaced."""
+    for path in sorted((ROOT / "crates").glob("*/must-fail/*.edit")):
+        texts, name, old = {}, None, None
+        for line in path.read_text(encoding="utf-8").splitlines():
+            word, _, rest = line.partition(":")
+            rest = rest.removeprefix(" ")
+            if word == "file":
+                name = path.parent.parent / rest
+                texts.setdefault(name, name.read_text(encoding="utf-8"))
+            elif word == "old":
+                old = rest
+            elif word == "new":
+                if texts[name].count(old) != 1:
+                    fault(path.relative_to(ROOT), f"not once in {name.relative_to(ROOT)}: {old.strip()}")
+                texts[name] = texts[name].replace(old, rest)
+
+
 def cited(known):
     """Labels in comments and pages."""
     for name in files():
@@ -228,6 +246,7 @@ def papers():
 def main():
     known = specified()
     promised(known)
+    edits_apply()
     cited(known)
     theorems()
     pages()
