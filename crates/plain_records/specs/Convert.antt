@@ -1,10 +1,11 @@
--- The record whose count has 32 bits as a plain record, and how one record becomes the other.
--- Definitions only.
+-- The record whose count has 32 bits as a plain record, and how one record becomes the other. Definitions only.
 use Prim.Native.Nat.{ℕ, _<_}
 use mathlib.Core.Bool.{cond}
-use lib.Dec.{ltb}
+use lib.Dec.{eqb, ltb}
 use Rattle.complex_sync.specs.Views.{stateOf}
 use Rattle.receiver_records.specs.declared.record.Receiver32 as declaredReceiver
+use Rattle.receiver_records.specs.declared.convert.Narrowed.{Narrowed}
+use Rattle.receiver_records.specs.declared.convert.Narrowed.the-variants.{Fits, TooLarge}
 use Rattle.receiver_records.specs.Records.{largest32}
 use Rattle.receiver_records.specs.Records as records
 use Rattle.plain_timing.specs.Complex as timing
@@ -38,3 +39,7 @@ tooLarge = 100
 -- L13: down, every field as it is, or that number
 unfoldable pub narrowed : Receiver64 → ReceiverNarrowed
 narrowed x = cond (ltb largest32 (x .count)) (record { number = tooLarge; receiver = none32 }) (record { number = 0; receiver = record { timing = x .timing; carrier = x .carrier; count = x .count } })
+
+-- what an answer stands for: the record where the number is 0
+abbrev pub answerOf : ReceiverNarrowed → Narrowed
+answerOf z = cond (eqb (z .number) 0) (Fits (receiver32Of (z .receiver))) TooLarge

@@ -44,7 +44,7 @@ impl<K: Kernel> Underway<'_, K> {
         self.recorder.convert(&mut self.receiver);
     }
 
-    /// Conversions of the counts up to a top, and of what the calls leave that pass it.
+    /// Conversions of the counts up to a top, and of what the calls leave that pass it; then a phase is set.
     fn around(&mut self, top: u64) {
         for below in [0, 1, 2] {
             self.recorder.set_count(&mut self.receiver, top - below);
@@ -54,6 +54,9 @@ impl<K: Kernel> Underway<'_, K> {
             self.calls(2);
             self.convert();
         }
+        let phase = self.random.bits32();
+        self.recorder.set_phase(&mut self.receiver, phase);
+        self.calls(1);
     }
 }
 

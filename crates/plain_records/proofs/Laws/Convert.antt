@@ -1,16 +1,14 @@
 -- L12 and L13: what the plain records become stands for what the receivers become, a given record stays given, and
 -- nothing is lost there and back (R22). Assumes nothing.
 use mathlib.Core.Path.{_≡_, refl, sym, ap, _∙_, subst}
-use mathlib.Core.Bool.{Bool, true, false, cond}
+use mathlib.Core.Bool.{Bool, true, false}
 use Prim.Native.Nat.{_≤_, _<_, _^_}
 use native.Mathlib.Omega.{arith}
 use borrow.Author.Tests.{lt-ltb, le-ltb, ltb-true, ltb-false}
-use lib.Dec.{lit<, eqb, ltb}
+use lib.Dec.{lit<, ltb}
 use Rattle.values.specs.declared.error.Refusal.{Refusal}
 use Rattle.values.specs.declared.error.Refusal.the-variants.{Pace, Width, Damping, Pull, Slope, Gains, Uneven, Odd}
 use Rattle.values.specs.Refusal.{numberOf}
-use Rattle.receiver_records.specs.declared.convert.Narrowed.{Narrowed}
-use Rattle.receiver_records.specs.declared.convert.Narrowed.the-variants.{Fits, TooLarge}
 use Rattle.receiver_records.specs.Records.{largest32}
 use Rattle.receiver_records.specs.Records as records
 use Rattle.receiver_records.proofs.Laws.Convert as laws
@@ -18,7 +16,7 @@ use Rattle.plain_records.specs.declared.record.Receiver64.{Receiver64}
 use Rattle.plain_records.specs.declared.record.Receiver32.{Receiver32}
 use Rattle.plain_records.specs.declared.convert.ReceiverNarrowed.{ReceiverNarrowed}
 use Rattle.plain_records.specs.Records.{receiver64Of, Given64}
-use Rattle.plain_records.specs.Convert.{receiver32Of, Given32, widened, none32, tooLarge, narrowed}
+use Rattle.plain_records.specs.Convert.{receiver32Of, Given32, widened, none32, tooLarge, narrowed, answerOf}
 
 -- ---- up
 pub widened-stands : (x : Receiver32) → receiver64Of (widened x) ≡ records.widened (receiver32Of x)
@@ -44,10 +42,6 @@ module _ (x : Receiver64) {G : Type 0} where
       go : (b : Bool) → ltb largest32 (x .count) ≡ b → G
       go true e = large (ltb-true largest32 (x .count) e)
       go false e = small (ltb-false largest32 (x .count) e)
-
--- what an answer stands for: the record where the number is 0
-abbrev pub answerOf : ReceiverNarrowed → Narrowed
-answerOf z = cond (eqb (z .number) 0) (Fits (receiver32Of (z .receiver))) TooLarge
 
 pub narrowed-stands : (x : Receiver64) → answerOf (narrowed x) ≡ records.narrowed (receiver64Of x)
 narrowed-stands x =

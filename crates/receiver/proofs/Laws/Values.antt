@@ -1,6 +1,6 @@
 -- The values that a receiver was set up with stay: a set-up gives them, and a reset and the phase setting keep them.
--- Assumes nothing.
-use mathlib.Core.Path.{_≡_, ap}
+-- The phase setting keeps all else too (R8). Assumes nothing.
+use mathlib.Core.Path.{_≡_, refl, ap}
 use Prim.Native.Nat.{ℕ}
 use Rattle.constellations.specs.declared.kinds.CostasConstellation.{CostasConstellation}
 use Rattle.receiver.specs.declared.record.TimingValues.{TimingValues}
@@ -20,3 +20,7 @@ module _ {k : CostasConstellation} {t : TimingValues} {c : CarrierValues} where
 
   pub phaseSet-with : (r : Receiver) (phase : ℕ) → SetUpWith k t c r → SetUpWith k t c (phaseSet r phase)
   phaseSet-with r phase w = record { constellation = w .constellation; timing = w .timing; carrier = w .carrier }
+
+-- R8: with the phase set back, the receiver is as it was
+pub phase-back : (r : Receiver) (phase : ℕ) → phaseSet (phaseSet r phase) (r .carrier .track .nco .phase) ≡ r
+phase-back r phase = refl
