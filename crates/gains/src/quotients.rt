@@ -3,7 +3,7 @@ ghost use Rattle.std.specs.Prelude.{◌≡◌};
 ghost use Rattle.gains.specs.Quotients.{proportional, integral};
 
 // The proportional and the integral gain of a loop whose detector has the slope 1.
-#[derive(Drop)]
+#[derive(Clone, Copy)]
 pub struct Quotients {
     pub kp: f64,
     pub ki: f64,

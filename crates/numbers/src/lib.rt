@@ -1,5 +1,7 @@
 // Operations on one number (N): flushing, from num.rs; and floor, narrowing, widening, limits,
 // finiteness and the sign, which are added.
+#![tactic(auto)]
+
 mod denormal;
 mod fields;
 mod narrowing;

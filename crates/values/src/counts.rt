@@ -6,7 +6,7 @@ use crate::progress::Answer;
 
 // A2: what a call answers: its number, 0 where it is done, and the two counts.
 #[repr(C)]
-#[derive(Drop)]
+#[derive(Clone, Copy)]
 pub struct Counts {
     pub number: u32,
     pub consumed: usize,

@@ -3,7 +3,7 @@ ghost use Rattle.std.specs.Prelude.{◌≡◌};
 ghost use Rattle.values.specs.Refusal.{number_of};
 
 // Why a call is refused. An infinity and a NaN lie outside every range.
-#[derive(Drop)]
+#[derive(Clone, Copy)]
 pub enum Refusal {
     // E1: the samples per symbol are outside 2 to 1,000,000.
     Pace,

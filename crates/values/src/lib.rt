@@ -1,5 +1,7 @@
 // A complex sample, the counts of a call and the refusals, from types.rs and timing.rs; and the symbol count, which is
 // added to the original.
+#![tactic(auto)]
+
 mod counter;
 mod counts;
 mod error;

@@ -3,7 +3,7 @@ use crate::error::Refusal;
 
 // Result of a rate-changing call.
 #[repr(C)]
-#[derive(Drop)]
+#[derive(Clone, Copy)]
 pub struct Progress {
     // Input samples consumed.
     pub consumed: usize,
@@ -12,7 +12,7 @@ pub struct Progress {
 }
 
 // A2: the answer of a run: its counts, or why it was refused.
-#[derive(Drop)]
+#[derive(Clone, Copy)]
 pub enum Answer {
     Done(Progress),
     Refused(Refusal),

@@ -4,7 +4,7 @@ ghost use Rattle.values.specs.Samples.{silence, samples, stored};
 
 // A1: a complex sample.
 #[repr(C)]
-#[derive(Drop)]
+#[derive(Clone, Copy)]
 pub struct C32 {
     pub re: f32,
     pub im: f32,

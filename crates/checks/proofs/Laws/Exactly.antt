@@ -30,6 +30,7 @@ first-is (r ∷ l) n p e = by r.passed refl (first-is l n p) e
 is-first : (l : List Row) (n t : ℕ) → First n l → first_of number_of l t ≡ n
 is-first (r ∷ l) n t (here f e) = first-refused number_of r l t f ∙ e
 is-first (r ∷ l) n t (later h f) = first-passed number_of r l t h ∙ is-first l n t f
+is-first [] n t x' = elim x' [ ]
 
 all-passed : (l : List Row) → first_number l ≡ 0 → Passed l
 unfolding first_of

@@ -93,6 +93,8 @@ unsigned f (fin false m e) a c h v = below (top f) (to_bits f (fin false m e)) (
     below : (w n : ℕ) → w + n < 2 * w → n < w
     below w n h = omega arith
 unsigned f (fin true m e) a c h v = absurd (subst T v.0 tt)
+unsigned f nan a c h v = elim v [ ]
+unsigned f (inf _) a c h v = elim v [ ]
 
 -- ---- a float that the format holds, taken apart
 top_pos : (f : Format) → 0 < top f
@@ -114,6 +116,8 @@ size-le f x h n = nltb→le (ones f * hid f) (to_bits f x % top f) (subst (λ (b
 pub value-number : (v : Float) (s : Bool) (a c : ℕ) → HasValue v s a c → T (not (is_nan v))
 unfolding is_nan
 value-number (fin t m e) s a c h = tt
+value-number nan s a c h = elim h [ ]
+value-number (inf _) s a c h = elim h [ ]
 
 bits_of : (f : Format) (x : Float) (n y t : ℕ) → T (fits f x) → HasValue x false n 1 → suc y < ones f → t < hid f → n * 2 ^ low f ≡ (hid f + t) * 2 ^ y → to_bits f x ≡ suc y * hid f + t
 bits_of f x n y t h v g k e =

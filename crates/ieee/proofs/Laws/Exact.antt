@@ -120,6 +120,8 @@ whole_scaled f (fin false m e) n k h =
     let w = 2 ^ suc k in
     mul-fin f false false m 1 e (negsuc k)
     ∙ round_same f false (m * up e * (1 * 1)) (down e * w) n w (mul-pos (down_pos e) (pow_pos (suc k))) (pow_pos (suc k)) (ap (λ (z : ℕ). z * w) h.1 ∙ mul_assoc n (down e) w)
+whole_scaled f nan n k h = elim h [ ]
+whole_scaled f (inf _) n k h = elim h [ ]
 
 none-off : (f : Format) (s : Bool) (a c : ℕ) → sum f s a true 0 c ≡ round f s a c
 unfolding sum
@@ -179,6 +181,7 @@ under A L B D E k P Q h g K =
   where
     widen : (A D k : ℕ) → 0 < k → A * D ≤ A * (D * k)
     widen A D (suc k) K = let e : A * (D * suc k) ≡ A * D * k + A * D = sym (mul_assoc A D (suc k)) ∙ mul-suc (A * D) k in omega arith
+    widen A D zero K = elim K [ ]
 
 half-grid : (f : Format) (s : Bool) (m : ℕ) (e : ℤ) → T (fits f (fin s m e)) → down e * 2 ≤ 2 ^ low f → Exact f (m * up e) (down e * 2)
 half-grid f s m e t h =
@@ -202,3 +205,5 @@ half-exact f x p t h = rounds-one-sided f (mul f x half₀) (plus x) (less x) (d
     go : (x : Float) → T (finite x) → T (fits f x) → den x * 2 ≤ 2 ^ low f → Exact f (plus x + less x) (den x * 2)
     go (fin true m e) p t h = rw (zero-add (m * up e)) (half-grid f true m e t h)
     go (fin false m e) p t h = rw (add-zero (m * up e)) (half-grid f false m e t h)
+    go nan p t h = elim p [ ]
+    go (inf _) p t h = elim p [ ]

@@ -26,6 +26,8 @@ differs-is (fin s m e) = equals_itself (fin s m e) _ refl (λ e. absurd (subst (
 pub finite-not-nan : (x : Float) → T (finite x) → T (not (is_nan x))
 unfolding is_nan
 finite-not-nan (fin s m e) p = tt
+finite-not-nan nan p = elim p [ ]
+finite-not-nan (inf _) p = elim p [ ]
 
 pub not-nan : (x : Float) → ne x x ≡ false → T (not (is_nan x))
 not-nan x h = subst (λ (b : Bool). T (not b)) (sym h ∙ differs-is x) tt

@@ -87,8 +87,12 @@ square-at-least f x h = go x (finite-product f x x h).0
     go : (x : Float) → T (finite x) → T (le zero₀ (mul f x x))
     go (fin false m e) p = plain m e
     go (fin true m e) p = rw (mul-negs f (fin false m e) (fin false m e)) (plain m e)
+    go nan p = elim p [ ]
+    go (inf _) p = elim p [ ]
 
 -- what is at least an infinity
 pub at-least-inf : (x : Float) → Reaches (inf false) x → T (finite x) → ⊥
 unfolding le
 at-least-inf (fin s m e) a h = a tt
+at-least-inf nan a h = elim h [ ]
+at-least-inf (inf _) a h = elim h [ ]

@@ -27,3 +27,6 @@ mul-number f x y p q = rounds-number f (mul f x y) _ _ _ (mul-rounds f x y p q)
 pub add-number : (f : Format) (x y : Float) → T (finite x) → T (number y) → T (number (add f x y))
 add-number f (fin s m e) (inf t) p q = unfold add in tt
 add-number f (fin s m e) (fin t n d) p q = rounds-number f (add f (fin s m e) (fin t n d)) _ _ _ (add_rounds f (fin s m e) (fin t n d) tt tt)
+add-number f nan y p q = elim p [ ]
+add-number f (inf _) y p q = elim p [ ]
+add-number f (fin s m e) nan p q = elim q [ ]

@@ -161,6 +161,8 @@ finite_number (fin s m e) p = tt
 pub less_none : (x : Float) → T (finite x) → T (le zero₀ x) → less x ≡ 0
 less_none (fin false m e) p h = refl
 less_none (fin true m e) p h = let k = le→cross zero₀ (fin true m e) tt p h in omega arith
+less_none nan p h = elim p [ ]
+less_none (inf _) p h = elim p [ ]
 
 pub one-part : (x : Float) → (plus x ≡ 0) ⊎ (less x ≡ 0)
 one-part nan = inl refl
@@ -172,6 +174,8 @@ one-part (fin false m e) = inr refl
 pub plus-some : (x : Float) → T (finite x) → T (lt zero₀ x) → (0 < plus x) × (less x ≡ 0)
 plus-some (fin false m e) p h = let k = lt→cross zero₀ (fin false m e) tt p h in (omega arith, refl)
 plus-some (fin true m e) p h = let k = lt→cross zero₀ (fin true m e) tt p h in (omega arith, omega arith)
+plus-some nan p h = elim p [ ]
+plus-some (inf _) p h = elim p [ ]
 
 pub own_val : (x : Float) → T (finite x) → Val x (plus x) (less x) (den x)
 own_val x h = (h, refl)
@@ -319,6 +323,7 @@ pub neg-number : (x : Float) → T (number x) → T (number (neg x))
 unfolding neg
 neg-number (inf s) p = tt
 neg-number (fin s m e) p = tt
+neg-number nan p = elim p [ ]
 
 -- ---- -l ≤ l, for an l from 0 up
 pub minus-le : (l : Float) → T (finite l) → T (le zero₀ l) → T (le (neg l) l)
@@ -328,6 +333,8 @@ minus-le (fin true m e) p h =
     let g = mul-le-mul_right (down e) k in
     cross→le (fin false m e) (fin true m e) tt tt (omega arith)
 minus-le (fin false m e) p h = cross→le (fin true m e) (fin false m e) tt tt (omega arith)
+minus-le nan p h = elim p [ ]
+minus-le (inf _) p h = elim p [ ]
 
 -- ---- what an order rules out
 pub not-below : (x y : Float) → T (finite x) → T (finite y) → T (le y x) → T (lt x y) → ⊥

@@ -31,6 +31,8 @@ round-neg f s a c = units-neg f s _ _
 pub neg_value : (x : Float) (a c : ℕ) → HasValue x false a c → HasValue (neg x) true a c
 unfolding neg
 neg_value (fin s m e) a c h = (ap not h.0, h.1)
+neg_value nan a c h = elim h [ ]
+neg_value (inf _) a c h = elim h [ ]
 
 at_one : (f : Format) (s : Bool) → round f s 0 1 ≡ fin s 0 (pos 0)
 unfolding round
@@ -68,6 +70,7 @@ nonneg-number : (v : Float) → NonNeg v → T (not (is_nan v))
 unfolding is_nan
 nonneg-number (inf s) h = tt
 nonneg-number (fin s m e) h = tt
+nonneg-number nan h = elim h [ ]
 
 neg-number : (v : Float) → T (not (is_nan v)) → T (not (is_nan (neg v)))
 unfolding is_nan neg

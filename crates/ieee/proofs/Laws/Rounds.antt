@@ -158,6 +158,10 @@ mul_at f x y p n c q o k C K v w =
 pub div-rounds : (f : Format) (x y : Float) → T (finite x) → T (finite y) → 0 < plus y → Rounds f (div f x y) (plus x * den y) (less x * den y) (plus y * den x)
 unfolding div
 div-rounds f (fin s m e) (fin true n d) p q h = absurd (lt_irrefl 0 h)
+div-rounds f nan y p q h = elim p [ ]
+div-rounds f (inf _) y p q h = elim p [ ]
+div-rounds f (fin s m e) nan p q h = elim q [ ]
+div-rounds f (fin s m e) (inf _) p q h = elim q [ ]
 div-rounds f (fin s m e) (fin false n d) p q h =
     subst (λ (b : Bool). Rounds f (cond b (cond (eqb m 0) nan (inf (unlike s false))) (round f (unlike s false) (m * up e * down d) (n * up d * down e))) (plus (fin s m e) * down d) (less (fin s m e) * down d) (n * up d * down e))
     (sym (is_false (eqb n 0) (not_T (eqb n 0) (λ t. lt_irrefl 0 (subst (λ (z : ℕ). 0 < z) (eqb→eq n 0 t) (first_pos n (up d) h)))))) (go s)

@@ -58,6 +58,10 @@ scaled_value f k s m e t h =
 pub scaled-swap : (f : Format) (k : ℕ) (x y : Float) → T (finite x) → T (finite y) → T (fits f x) → T (fits f y)
     → (plus x + less x) * 2 ^ k < 2 ^ suc (emax f) * den x → (plus y + less y) * 2 ^ k < 2 ^ suc (emax f) * den y
     → let p = fin false 1 (pos k) in mul f (mul f p x) y ≡ mul f (mul f p y) x
+scaled-swap f k nan y p q u w h g = elim p [ ]
+scaled-swap f k (inf _) y p q u w h g = elim p [ ]
+scaled-swap f k (fin s m e) nan p q u w h g = elim q [ ]
+scaled-swap f k (fin s m e) (inf _) p q u w h g = elim q [ ]
 scaled-swap f k (fin s m e) (fin t n d) p q u w h g =
     let x = fin s m e in
     let y = fin t n d in

@@ -30,6 +30,10 @@ bits-same f s m n e d h =
     (mul_right_comm (m * up e) (2 ^ low f) (down d) ∙ ap (λ (z : ℕ). z * 2 ^ low f) h ∙ mul_right_comm (n * up d) (down e) (2 ^ low f)))
 
 pub value-unique : (f : Format) (x y : Float) (s : Bool) (a c b d : ℕ) → 0 < c → 0 < d → T (fits f x) → T (fits f y) → HasValue x s a c → HasValue y s b d → a * d ≡ b * c → x ≡ y
+value-unique f nan y s a c b d C D p q h k r = elim h [ ]
+value-unique f (inf _) y s a c b d C D p q h k r = elim h [ ]
+value-unique f (fin t m e) nan s a c b d C D p q h k r = elim k [ ]
+value-unique f (fin t m e) (inf _) s a c b d C D p q h k r = elim k [ ]
 value-unique f (fin t m e) (fin u n g) s a c b d C D p q h k r =
     sym (of_bits-to_bits f (fin t m e) p)
     ∙ ap (λ (z : Bool). of_bits f (to_bits f (fin z m e))) h.0

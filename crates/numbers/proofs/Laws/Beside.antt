@@ -71,6 +71,8 @@ floor-zero (fin true m e) p t l h =
     let k = lt→vals (floored x) x _ _ 1 _ _ (den x) (zero-lt-suc 0) (den_pos x) (floor-is x p t) (own_val x p) l in
     let g = ap (λ (z : ℕ). z * den x) h in
     absurd (lt_irrefl 0 (omega arith))
+floor-zero lib.Ieee.nan p t l h = elim p [ ]
+floor-zero (lib.Ieee.inf _) p t l h = elim p [ ]
 
 -- two orders that cannot both be
 apart : (y z : Float) → T (finite y) → T (finite z) → T (lt y z) → T (lt z y) → ⊥

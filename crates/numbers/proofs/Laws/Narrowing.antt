@@ -27,6 +27,8 @@ use Rattle.numbers.specs.Narrowing.{narrowed}
 pub narrow-value : (x : Float) (s : Bool) (a c : ℕ) → 0 < c → HasValue x s a c → narrowed x ≡ round binary32 s a c
 unfolding narrowed
 narrow-value (fin t m e) s a c C h = ap (λ (z : Bool). round binary32 z (m * up e) (down e)) h.0 ∙ round_same binary32 s (m * up e) (down e) a c (down_pos e) C h.1
+narrow-value nan s a c C h = elim h [ ]
+narrow-value (inf _) s a c C h = elim h [ ]
 
 pub narrow-fits : (x : Float) → T (fits binary32 (narrowed x))
 unfolding narrowed
@@ -81,6 +83,8 @@ pub narrow-rounds : (x : Float) → T (finite x) → Rounds binary32 (narrowed x
 unfolding narrowed
 narrow-rounds (fin false m e) p = at_high binary32 (m * up e) 0 (down e) (m * up e) (omega arith)
 narrow-rounds (fin true m e) p = at-deep binary32 0 (m * up e) (down e) (m * up e) (omega arith)
+narrow-rounds nan p = elim p [ ]
+narrow-rounds (inf _) p = elim p [ ]
 
 pub narrow-mono : (x y : Float) → T (finite x) → T (finite y) → T (le x y) → T (le (narrowed x) (narrowed y))
 narrow-mono x y p q h = rounds-mono binary32 (narrowed x) (narrowed y) (plus x) (less x) (den x) (plus y) (less y) (den y) (den_pos x) (den_pos y) (narrow-rounds x p) (narrow-rounds y q) (le→cross x y p q h)

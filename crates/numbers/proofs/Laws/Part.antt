@@ -48,6 +48,8 @@ floor-plain (fin true m e) p h =
     let C = down_pos e in
     let k : (m * up e + (c - 1)) / c < 1 = (div-lt_iff_lt-mul C).1 (omega arith) in
     (sym (zero-div c), omega arith)
+floor-plain lib.Ieee.nan p h = elim p [ ]
+floor-plain (lib.Ieee.inf _) p h = elim p [ ]
 
 -- the fraction of a value that the format holds is held too
 part-exact : (x : Float) → T (finite x) → T (fits binary64 x) → Exact binary64 (plus x % den x) (den x)
@@ -58,6 +60,8 @@ part-exact (fin false m (negsuc k)) p t s =
     let r = m * 1 % 2 ^ suc k in
     let l : r ≤ m = le_trans (mod-le (m * 1) (2 ^ suc k)) (le_of_eq (mul-one m)) in
     subst (λ (z : ℕ). HasValue (round binary64 s z (2 ^ suc k)) s z (2 ^ suc k)) (mul-one r) (on-grid binary64 s r (negsuc k) (lt_of_le_of_lt l h.0) h.1 (lt_of_le_of_lt (mul-le-mul_right 1 l) h.2))
+part-exact lib.Ieee.nan p t s = elim p [ ]
+part-exact (lib.Ieee.inf _) p t s = elim p [ ]
 
 same-part : (P N d A B : ℕ) → N ≡ 0 → A ≡ P / d → B ≡ 0 → (P * 1 + B * d) * d + 0 * (d * 1) ≡ P % d * (d * 1) + (N * 1 + A * d) * d
 same-part P N d A B n a b =

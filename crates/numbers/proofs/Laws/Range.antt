@@ -68,10 +68,14 @@ high-not-low (inf true) l q z h = absurd (below_none l q (yes h))
   where
     below_none : (l : Float) → T (finite l) → T (lt l (inf true)) → ⊥
     below_none (fin s m e) q h = unfold lt in h
+    below_none nan q h = elim q [ ]
+    below_none (inf _) q h = elim q [ ]
 high-not-low (inf false) l q z h = top-not (neg l) (neg-finite l q)
   where
     top-not : (y : Float) → T (finite y) → lt (inf false) y ≡ false
     top-not (fin s m e) q = unfold lt in refl
+    top-not nan q = elim q [ ]
+    top-not (inf _) q = elim q [ ]
 high-not-low (fin s m e) l q z h =
     let x = fin s m e in
     le→not-lt (neg l) x (le-trans-float (neg l) l x (minus-le l q z) (lt→le l x (yes h)))

@@ -23,4 +23,4 @@ module _ {S C O : Type 0} (call : S → C → O) (left : O → S) where
     pub lists-keep : {s t : S} {cs ds : List C} → R s t → Each Q cs ds → Each P (outcomes_by call left s cs) (outcomes_by call left t ds) × R (after_by call left s cs) (after_by call left t ds)
     unfolding outcomes_by after_by
     lists-keep h none = (none, h)
-    lists-keep {s} {t} h (more {a = c} {b = d} q qs) = let o = keeps s t c d h q in let r = lists-keep o.1 qs in (more o.0 r.0, r.1)
+    lists-keep {s} {t} h (more {a = c} {b = d} q qs) = let o = keeps s t c d h q in let r = lists-keep {s = left (call s c)} o.1 qs in (more o.0 r.0, r.1)

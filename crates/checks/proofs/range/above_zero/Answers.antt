@@ -1,0 +1,14 @@
+-- `checks::above_zero` meets its contract: by the test for a finite value. Assumes nothing.
+use mathlib.Core.Path.{refl, sym, ◌∙◌}
+use lib.Ieee.{of_bits}
+use Rattle.ieee.proofs.Laws.Test.{and-held, and-failed}
+use Rattle.checks.specs.Range.{positive}
+use Rattle.checks.proofs.range.above_zero.Goals as goal
+
+pub returns-then-is_finite_f64 : goal.returns-then-is_finite_f64
+unfolding positive of_bits
+returns-then-is_finite_f64 c = and-held (sym c.is_finite_f64.ensures ∙ c.if-is_finite_f64.true) refl
+
+pub returns-else-is_finite_f64 : goal.returns-else-is_finite_f64
+unfolding positive
+returns-else-is_finite_f64 c = and-failed _ (sym c.is_finite_f64.ensures ∙ c.if-is_finite_f64.false) c.is_finite_f64.ensures
