@@ -1,5 +1,5 @@
 // The constellation of the loop: it selects the phase detector (C16) and the lock measure (C19).
-#[derive(Drop)]
+#[derive(Clone, Copy)]
 pub enum CostasConstellation {
     // The detector y.re y.im.
     Bpsk,

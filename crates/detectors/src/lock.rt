@@ -7,7 +7,7 @@ use constellations::CostasConstellation;
 use values::C32;
 
 // C19: a lock measure, or none where it is not finite.
-#[derive(Drop)]
+#[derive(Clone, Copy)]
 pub enum Metric {
     Number(f32),
     Nothing,
@@ -15,7 +15,7 @@ pub enum Metric {
 
 // The lock detector.
 #[repr(C)]
-#[derive(Drop)]
+#[derive(Clone, Copy)]
 pub struct Lock {
     // Smoothed lock measure.
     pub level: f32,

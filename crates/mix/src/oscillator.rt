@@ -15,7 +15,7 @@ const ZEROS: u32 = 0x8;
 const ONE_BITS: u32 = 0x3f80_0000;
 
 // Cosine and sine of a phase.
-#[derive(Drop)]
+#[derive(Clone, Copy)]
 pub struct Pair {
     pub c: f32,
     pub s: f32,

@@ -1,4 +1,6 @@
 // The phase step of the oscillator, from fallback/modulate.rs and fallback/costas.rs.
+#![tactic(auto)]
+
 mod modulate;
 mod single;
 

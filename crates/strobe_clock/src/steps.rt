@@ -24,7 +24,7 @@ pub fn fresh_clock(sps: f64) -> Clock
 }
 
 // A place between samples: the whole part and the fraction.
-#[derive(Drop)]
+#[derive(Clone, Copy)]
 pub struct Place {
     pub i: usize,
     pub mu: f64,

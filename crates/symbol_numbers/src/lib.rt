@@ -1,4 +1,6 @@
 // Symbol numbers, which the receiver adds to the original.
+#![tactic(auto)]
+
 mod symbol;
 
 pub use symbol::{SymbolNumber, is_none, is_silent, symbol_number};

@@ -6,7 +6,7 @@ use constellations::CostasConstellation;
 use values::C32;
 
 // R16: what an output sample is read as.
-#[derive(Drop)]
+#[derive(Clone, Copy)]
 pub enum SymbolNumber {
     // Below 2 under BPSK, below 4 under QPSK, below 8 under 8-PSK.
     Number(usize),

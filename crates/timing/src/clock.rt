@@ -8,7 +8,7 @@ pub const HIST: usize = 3;
 const HIST_SAMPLES: f64 = 3.0;
 
 #[repr(C)]
-#[derive(Drop)]
+#[derive(Clone, Copy)]
 pub struct Clock {
     // Integer part of the next strobe's position in the history followed by the input.
     pub i: usize,

@@ -1,5 +1,7 @@
 // What both timing loops share, from kernels/symbol_sync.rs: the set-up's values and gains, the clock,
 // and the arithmetic of one sample. Nothing here requires anything.
+#![tactic(auto)]
+
 mod clock;
 pub mod complex;
 mod params;

@@ -1,7 +1,7 @@
 // The parameters of a timing state.
 
 // T2: the timing error detector.
-#[derive(Drop)]
+#[derive(Clone, Copy)]
 pub enum Ted {
     // (y_prev - y) m with the midpoint sample (middle) m half a symbol before y: two interpolations a symbol.
     Gardner,
@@ -10,7 +10,7 @@ pub enum Ted {
 }
 
 // T2, T3: the six values of a set-up, and the gains and the limit that it works out of them.
-#[derive(Drop)]
+#[derive(Clone, Copy)]
 pub struct Params {
     // Samples per symbol.
     pub sps: f64,

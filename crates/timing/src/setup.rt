@@ -27,14 +27,14 @@ const MIN_DEVIATION: f64 = 0.0;
 const MAX_DEVIATION: f64 = 0.05;
 
 // The parameters of an accepted set-up, or the reason of a refused one.
-#[derive(Drop)]
+#[derive(Clone, Copy)]
 pub enum Tuning {
     Accepted(Params),
     Refused(Refusal),
 }
 
 // The proportional and the integral gain.
-#[derive(Drop)]
+#[derive(Clone, Copy)]
 struct Gains {
     kp: f64,
     ki: f64,

@@ -1,6 +1,6 @@
 -- The low 20 bits of a phase over 2^20: 1 with these bits as its digits, less 1, gives it, and nothing is lost.
 -- Assumes nothing.
-use Rattle.std.proofs.Common.{◌≡◌, ℕ, zero, suc, ◌+◌, ◌-◌, ◌*◌, ◌%◌, ◌^◌, ◌<◌, false, sym, refl, ap, ◌∙◌, subst, lt_irrefl, zero-lt-suc, arith, pow_pos, pow-add}
+use Rattle.std.proofs.Common.{◌≡◌, ℕ, zero, suc, ◌+◌, ◌*◌, ◌%◌, ◌^◌, ◌<◌, false, sym, refl, ap, ◌∙◌, subst, lt_irrefl, zero-lt-suc, arith, pow_pos, pow-add}
 use lib.Ieee.{Float, binary32, round, add, sub, of_bits}
 use lib.Ieee.Exact.{HasValue}
 use Rattle.ieee.specs.Notation.{one₀}

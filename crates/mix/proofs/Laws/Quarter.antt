@@ -1,6 +1,6 @@
 -- A quarter turn on the phase makes the pair (c, s) into (-s, c), numbers alike, and m of them repeat it. Shown of
 -- any table whose entries half a turn apart are opposites. Assumes nothing.
-use Rattle.std.proofs.Common.{◌≡◌, ℕ, zero, suc, ◌+◌, ◌-◌, ◌*◌, ◌/◌, ◌%◌, ◌^◌, ◌<◌, List, get_or, subst, inl, inr, arith}
+use Rattle.std.proofs.Common.{◌≡◌, ℕ, zero, suc, ◌+◌, ◌*◌, ◌/◌, ◌%◌, ◌^◌, ◌<◌, List, get_or, subst, inl, inr, arith}
 use lib.Ieee.{Float, nan}
 use Rattle.ieee.specs.Alike.{Opposite}
 use Rattle.ieee.proofs.Laws.Test.{order}

@@ -32,7 +32,7 @@ sector-alike Qpsk p = ap (λ (k : ℕ). k / 2) (octant-alike p)
 sector-alike Psk8 p = octant-alike p
 
 none_alike : {v z : C32} → AlikeSample v z → no_symbol v ≡ no_symbol z
-none_alike p = let z = like-refl zero₀ in λ j. (like-eq p.real z j && like-eq p.imag z j) || (like-nan p.real j || like-nan p.imag j)
+none_alike p = let z = like-refl zero₀ in cc (like-eq p.real z, like-eq p.imag z, like-nan p.real, like-nan p.imag)
 
 pub symbol-alike : (c : CostasConstellation) {v z : C32} → AlikeSample v z → symbol_of c v ≡ symbol_of c z
 unfolding symbol_of

@@ -26,6 +26,8 @@ one_up w p h =
 -- its last digit stands at 2^-53 or above, so that a half has room
 room : (w : Float) → T (finite w) → T (fits binary64 w) → T (le one₀ w) → den w * 2 ≤ 2 ^ 1074
 room (fin s m (pos k)) p t h = lit≤ tt
+room lib.Ieee.nan p t h = elim p [ ]
+room (lib.Ieee.inf _) p t h = elim p [ ]
 room (fin s m (negsuc k)) p t h =
     let i : suc k ≤ 53 = pow-back (suc k) 53 (le_of_lt (lt_of_le_of_lt (digits s h) (fits-parts binary64 s m (negsuc k) t).0)) in
     le_trans (le_of_eq (sym (pow-suc 2 (suc k)))) (le_trans (pow_mono {i = suc (suc k)} {j = 54} (omega arith)) (lit≤ tt))

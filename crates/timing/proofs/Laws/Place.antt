@@ -46,6 +46,8 @@ on-is : (v : Float) → T (lt zero₀ v) → T (finite v) → (floored v ≡ of_
 unfolding floored of_int
 on-is (fin false m e) a p = (refl, refl)
 on-is (fin true m e) a p = absurd (lt_irrefl 0 (plus-some (fin true m e) p a).0)
+on-is lib.Ieee.nan a p = elim p [ ]
+on-is (lib.Ieee.inf _) a p = elim p [ ]
 
 module _ (i : ℕ) (v f : Float) (o : On i v) (is : f ≡ floored v) where
   on-cast : Cast f (floor_plus v)
