@@ -13,7 +13,7 @@ use numbers::TINY_F32;
 
 // The oscillator.
 #[repr(C)]
-#[derive(Drop)]
+#[derive(Clone, Copy)]
 pub struct Nco {
     // Phase before the next symbol, in units of 2^-32 turn.
     pub phase: u32,

@@ -1,6 +1,8 @@
 // The carrier loop but for its run over slices, from kernels/costas.rs and fallback/costas.rs: state, set-up,
 // reset, setters and readings, the loop filter, and one step. Nothing here requires anything but `Given` of a
 // state.
+#![tactic(auto)]
+
 mod filter;
 mod params;
 mod state;

@@ -4,7 +4,7 @@ ghost use Rattle.carrier.specs.Gains.{kp_of, ki_of};
 
 // C2: the three values of a set-up, with the gains and the limit.
 #[repr(C)]
-#[derive(Drop)]
+#[derive(Clone, Copy)]
 pub struct Params {
     // Loop bandwidth, normalized to the symbol rate.
     pub loop_bw: f64,
@@ -20,7 +20,7 @@ pub struct Params {
 }
 
 // The proportional and the integral gain.
-#[derive(Drop)]
+#[derive(Clone, Copy)]
 pub(crate) struct LoopGains {
     pub kp: f32,
     pub ki: f32,

@@ -25,7 +25,7 @@ const MIN_OFFSET: f64 = 0.0;
 const MAX_OFFSET: f64 = 0.25;
 
 // C6: the constellation, what a set-up settles, and what a run changes.
-#[derive(Drop)]
+#[derive(Clone, Copy)]
 pub struct CostasState {
     pub constellation: CostasConstellation,
     pub params: Params,
@@ -33,14 +33,14 @@ pub struct CostasState {
 }
 
 // The answer of a set-up.
-#[derive(Drop)]
+#[derive(Clone, Copy)]
 pub enum SetUp {
     Ready(CostasState),
     Refused(Refusal),
 }
 
 // The answer of a run, which has no counts: every input sample gives an output sample.
-#[derive(Drop)]
+#[derive(Clone, Copy)]
 pub enum Reply {
     Done,
     Refused(Refusal),

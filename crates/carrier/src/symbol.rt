@@ -10,7 +10,7 @@ use values::C32;
 
 // What a run changes.
 #[repr(C)]
-#[derive(Drop)]
+#[derive(Clone, Copy)]
 pub struct Track {
     pub nco: Nco,
     pub lock: Lock,

@@ -127,7 +127,7 @@ fn strobe(p: Params, t: Track, y: C32) -> Track
 // ---- A run
 
 // The track after the loop, and how many strobes it has written.
-#[derive(Drop)]
+#[derive(Clone, Copy)]
 struct Strobed {
     track: Track,
     produced: usize,
@@ -174,7 +174,7 @@ fn hist_at(h: Hist, input: &[f32], k: usize) -> Hist
 }
 
 // The counts of a run that is not refused, and the state after it.
-#[derive(Drop)]
+#[derive(Clone, Copy)]
 pub struct Recovered {
     pub progress: Progress,
     pub state: SymbolSyncState,
@@ -213,7 +213,7 @@ pub fn recover(s: SymbolSyncState, input: &[f32], output: &mut [f32]) -> Recover
 }
 
 // The answer of a run, and the state after it.
-#[derive(Drop)]
+#[derive(Clone, Copy)]
 pub struct Ran {
     pub answer: Answer,
     pub state: SymbolSyncState,

@@ -13,7 +13,7 @@ use values::{C32, Refusal};
 
 // T5: the last three samples, oldest first; index 0 of the positions.
 #[repr(C)]
-#[derive(Drop)]
+#[derive(Clone, Copy)]
 pub struct Hist {
     pub a: C32,
     pub b: C32,
@@ -22,7 +22,7 @@ pub struct Hist {
 
 // T5: what a run changes while it loops.
 #[repr(C)]
-#[derive(Drop)]
+#[derive(Clone, Copy)]
 pub struct Track {
     pub clock: Clock,
     pub y_prev: C32,
@@ -35,7 +35,7 @@ pub struct Track {
 }
 
 // T5, F3: the state of the loop: the values of the set-up, the history, and what a run changes.
-#[derive(Drop)]
+#[derive(Clone, Copy)]
 pub struct SymbolSyncState {
     pub params: Params,
     pub hist: Hist,
@@ -74,7 +74,7 @@ fn start(p: Params) -> SymbolSyncState
 }
 
 // The answer of a set-up.
-#[derive(Drop)]
+#[derive(Clone, Copy)]
 pub enum SetUp {
     Ready(SymbolSyncState),
     Refused(Refusal),

@@ -13,7 +13,7 @@ use carrier::{CostasConstellation, CostasState, Params, Reply, Track};
 use values::Refusal;
 
 // The answer of a run, and the state after it.
-#[derive(Drop)]
+#[derive(Clone, Copy)]
 pub struct Ran {
     pub answer: Reply,
     pub state: CostasState,

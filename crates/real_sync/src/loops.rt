@@ -126,7 +126,7 @@ fn strobe(p: Params, t: Track, y: f32) -> Track
 // ---- A run
 
 // The track after the loop, and how many strobes it has written.
-#[derive(Drop)]
+#[derive(Clone, Copy)]
 struct Strobed {
     track: Track,
     produced: usize,
@@ -173,7 +173,7 @@ fn hist_at(h: Hist, input: &[f32], k: usize) -> Hist
 }
 
 // The counts of a run, and the state after it.
-#[derive(Drop)]
+#[derive(Clone, Copy)]
 pub struct Ran {
     pub progress: Progress,
     pub state: SymbolSyncState,

@@ -75,7 +75,7 @@ module _ (c : CostasConstellation) (p : Params) (k m : ℕ) (a : Allowed c k m) 
   pub tied-runs : {s t : Track} {xs ys : List C32} → Tied m s t → AllTurned k xs ys → TiedSymbols k m (runs cos_list c p s xs) (runs cos_list c p t ys)
   unfolding runs
   tied-runs h none = record { values = none; last = h }
-  tied-runs h (more {a = x} q qs) =
+  tied-runs {s = s} {t = t} h (more {a = x} {b = w} q qs) =
       let y = turned-output x h q in
-      let r = tied-runs (tied-stepped _ h y) qs in
+      let r = tied-runs {s = stepped c p s (output_of cos_list s x)} {t = stepped c p t (output_of cos_list t w)} (tied-stepped _ h y) qs in
       record { values = more y r.values; last = r.last }

@@ -1,0 +1,19 @@
+-- `complex_sync::start` meets its contract: the literal, with the fresh clock in it, is the fresh state.
+-- Assumes nothing.
+use mathlib.Core.Path.{sym, ap, subst}
+use mathlib.Core.Bool.{false}
+use lib.Ieee.{of_bits}
+use Rattle.values.specs.declared.sample.C32.{C32}
+use Rattle.timing.specs.declared.clock.Clock.{Clock}
+use Rattle.timing.specs.Sample.{complex}
+use Rattle.timing.specs.Run.{Sync, Given, fresh}
+use Rattle.timing.proofs.Laws.Fresh.{fresh-given}
+use Rattle.complex_sync.proofs.state.start.Goals as goal
+
+pub returns : goal.returns
+unfolding of_bits
+returns c =
+    let a = c.args in
+    let with : Clock → Sync C32 = λ k. record { params = a.p; hist = (fresh complex a.p).hist; track = record { clock = k; y_prev = complex.zero; d_prev = complex.zero; mid = complex.zero; mid_ready = false; started = false } } in
+    let e = ap with c.fresh_clock-clock.ensures in
+    record { state = e; given = subst Given (sym e) (fresh-given complex a.p c.requires) }
