@@ -1,5 +1,7 @@
 // The train report receiver, added to the original: both loops, with a symbol count. Its sample calls stand in
 // `sample_calls`. Nothing here requires anything but `Given` of a receiver.
+#![tactic(auto)]
+
 mod loops;
 mod record;
 

@@ -9,7 +9,7 @@ use timing::Ted;
 use values::Refusal;
 
 // T2: what the timing loop is set up with.
-#[derive(Drop)]
+#[derive(Clone, Copy)]
 pub struct TimingValues {
     // Samples per symbol, 2 to 1,000,000.
     pub sps: f64,
@@ -26,7 +26,7 @@ pub struct TimingValues {
 
 // C2: what the carrier loop is set up with, but for its constellation.
 #[repr(C)]
-#[derive(Drop)]
+#[derive(Clone, Copy)]
 pub struct CarrierValues {
     // Loop bandwidth, normalized to the symbol rate, 0.0001 to 0.2.
     pub loop_bw: f64,
@@ -37,7 +37,7 @@ pub struct CarrierValues {
 }
 
 // The answer of a set-up.
-#[derive(Drop)]
+#[derive(Clone, Copy)]
 pub enum SetUp {
     Ready(Receiver),
     Refused(Refusal),

@@ -8,7 +8,7 @@ use crate::record::{Receiver32, Receiver64};
 pub const LARGEST_32: u64 = 0xffff_ffff;
 
 // R21: the answer of a conversion down.
-#[derive(Drop)]
+#[derive(Clone, Copy)]
 pub enum Narrowed {
     Fits(Receiver32),
     TooLarge,

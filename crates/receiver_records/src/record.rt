@@ -3,7 +3,7 @@ use carrier::CostasState;
 use complex_sync::SymbolSyncState;
 
 // R18: the record whose count has 64 bits.
-#[derive(Drop)]
+#[derive(Clone, Copy)]
 pub struct Receiver64 {
     pub timing: SymbolSyncState,
     // The constellation stands in it.
@@ -13,7 +13,7 @@ pub struct Receiver64 {
 }
 
 // R19: the record as it was before. Its count stopped at 4,294,967,295.
-#[derive(Drop)]
+#[derive(Clone, Copy)]
 pub struct Receiver32 {
     pub timing: SymbolSyncState,
     pub carrier: CostasState,

@@ -5,7 +5,7 @@ ghost use Rattle.values.specs.Samples.{samples};
 
 use values::C32;
 
-#[derive(Drop)]
+#[derive(Clone, Copy)]
 pub enum Content {
     // There are no samples.
     Empty,

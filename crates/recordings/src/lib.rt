@@ -2,6 +2,8 @@
 // of symbols, laid out in lines, and a number in thousandths; how many symbols read none; whether there is
 // something to receive in a recording; and what a receiver is set up with for the sample recording. Nothing
 // here requires anything.
+#![tactic(auto)]
+
 mod bytes;
 mod content;
 mod decimals;

@@ -8,7 +8,7 @@ use receiver::Receiver;
 use values::{Answer, Refusal, counted};
 
 // The answer of a sample call, and the receiver after it.
-#[derive(Drop)]
+#[derive(Clone, Copy)]
 pub struct Ran {
     pub answer: Answer,
     pub receiver: Receiver,

@@ -1,0 +1,16 @@
+-- `recordings::write_samples` meets its contract. The loop's invariant: the bytes of the first k f32 stand at
+-- the front. Assumes nothing.
+use Rattle.std.proofs.Common.{arith}
+use Rattle.std.specs.Float.Ieee.{nan}
+use Rattle.lists.proofs.Laws.Stores.{begins}
+use Rattle.recordings.proofs.Laws.Floats.{no_bytes, f32-more}
+use Rattle.recordings.proofs.samples.write_samples.Goals as goal
+
+pub loop-k-init : goal.loop-k-init
+loop-k-init c = (omega arith, omega arith, omega arith, begins _ (no_bytes c.args.samples.now))
+
+pub loop-k-preserved : goal.loop-k-preserved
+loop-k-preserved c =
+    let a = c.args in
+    let t = c.loop-k in
+    (omega arith, t.invariant.1, t.invariant.2, f32-more a.bytes.now a.samples.now t.k nan (omega arith) t.invariant.3 c.store_f32.ensures)
