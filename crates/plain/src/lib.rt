@@ -1,6 +1,8 @@
 // What goes to programs in C and Rust as plain numbers: the codes that stand for the enums.
 // bindings/c/train_receiver.h has a name for each code and number; specs/Header.antt says which is which.
 // specs/Faithful.antt says what it is for a plain record to stand for a state.
+#![tactic(auto)]
+
 mod codes;
 
 pub use codes::{

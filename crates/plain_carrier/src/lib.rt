@@ -1,6 +1,8 @@
 // The carrier loop's state as a plain record, in which a number stands for the constellation: what comes in
 // as a record is turned into the state, and what goes out into a record again. `crates/train_receiver`
 // exports it.
+#![tactic(auto)]
+
 ghost use Rattle.std.specs.Prelude.{◌≡◌};
 ghost use Rattle.carrier.specs.State.{SetUpGiven};
 ghost use Rattle.carrier.specs.Run.{called};
@@ -11,7 +13,7 @@ use plain::{constellation, constellation_code};
 
 // The state as a plain record.
 #[repr(C)]
-#[derive(Drop)]
+#[derive(Clone, Copy)]
 pub struct Carrier {
     // 0 BPSK, 1 QPSK, 2 8-PSK.
     pub constellation: u32,
@@ -22,7 +24,7 @@ pub struct Carrier {
 // L3: the answer of a set-up: its number, and the state where the number is 0. Where it is not, there is no
 // state: the record is all zeros, and no call may be given it.
 #[repr(C)]
-#[derive(Drop)]
+#[derive(Clone, Copy)]
 pub struct CarrierSetUp {
     pub number: u32,
     pub state: Carrier,
@@ -105,7 +107,7 @@ pub fn answer_of(answer: SetUp) -> CarrierSetUp
 }
 
 // The number of a call, and the record after it.
-#[derive(Drop)]
+#[derive(Clone, Copy)]
 pub struct CarrierRan {
     pub number: u32,
     pub state: Carrier,

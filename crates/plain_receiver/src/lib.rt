@@ -1,5 +1,7 @@
 // The receiver's set-up and calls, with the receiver as a plain record. What comes in as a record is turned into the
 // receiver, and what goes out into a record again. `crates/train_receiver` exports it.
+#![tactic(auto)]
+
 ghost use Rattle.std.specs.Prelude.{◌≡◌};
 ghost use Rattle.receiver.specs.Record.{SetUpGiven};
 ghost use Rattle.sample_calls.specs.Call.{called};
@@ -14,7 +16,7 @@ use values::{Counts, counts_of};
 // L3: the answer of a set-up: its number, and the receiver where the number is 0. Where it is not, there is
 // no receiver: the record is all zeros, and no call may be given it.
 #[repr(C)]
-#[derive(Drop)]
+#[derive(Clone, Copy)]
 pub struct ReceiverSetUp {
     pub number: u32,
     pub receiver: Receiver,
@@ -64,7 +66,7 @@ pub fn answer_of(answer: SetUp) -> ReceiverSetUp
 }
 
 // The answer of a call, and the record after it.
-#[derive(Drop)]
+#[derive(Clone, Copy)]
 pub struct ReceiverRan {
     pub counts: Counts,
     pub receiver: Receiver,

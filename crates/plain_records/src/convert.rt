@@ -13,7 +13,7 @@ const TOO_LARGE: u32 = 100;
 // L13: the answer of a conversion down: 0 and the record, or the number of "too large". Then there is no record: it is
 // all zeros, and no call may be given it.
 #[repr(C)]
-#[derive(Drop)]
+#[derive(Clone, Copy)]
 pub struct ReceiverNarrowed {
     pub number: u32,
     pub receiver: Receiver32,

@@ -8,7 +8,7 @@ use plain_timing::complex::ComplexTiming;
 
 // The record whose count has 64 bits (R18).
 #[repr(C)]
-#[derive(Drop)]
+#[derive(Clone, Copy)]
 pub struct Receiver64 {
     pub timing: ComplexTiming,
     pub carrier: Carrier,
@@ -18,7 +18,7 @@ pub struct Receiver64 {
 
 // The record as it was before (R19).
 #[repr(C)]
-#[derive(Drop)]
+#[derive(Clone, Copy)]
 pub struct Receiver32 {
     pub timing: ComplexTiming,
     pub carrier: Carrier,

@@ -11,7 +11,7 @@ use values::{C32, Counts, counts_of};
 
 // The state as a plain record.
 #[repr(C)]
-#[derive(Drop)]
+#[derive(Clone, Copy)]
 pub struct ComplexTiming {
     pub params: TimingParams,
     pub hist: Hist,
@@ -21,7 +21,7 @@ pub struct ComplexTiming {
 // L3: the answer of a set-up: its number, and the state where the number is 0. Where it is not, there is no
 // state: the record is all zeros, and no call may be given it.
 #[repr(C)]
-#[derive(Drop)]
+#[derive(Clone, Copy)]
 pub struct ComplexSetUp {
     pub number: u32,
     pub state: ComplexTiming,
@@ -105,7 +105,7 @@ pub fn answer_of(answer: complex_sync::SetUp) -> ComplexSetUp
 }
 
 // The answer of a call, and the record after it.
-#[derive(Drop)]
+#[derive(Clone, Copy)]
 pub struct ComplexRan {
     pub counts: Counts,
     pub state: ComplexTiming,

@@ -8,7 +8,7 @@ use timing::{Clock, Params};
 
 // T2: what a timing loop is set up with.
 #[repr(C)]
-#[derive(Drop)]
+#[derive(Clone, Copy)]
 pub struct TimingValues {
     // Samples per symbol, 2 to 1,000,000.
     pub sps: f64,
@@ -26,7 +26,7 @@ pub struct TimingValues {
 
 // The parameters of a timing state.
 #[repr(C)]
-#[derive(Drop)]
+#[derive(Clone, Copy)]
 pub struct TimingParams {
     pub sps: f64,
     // 0 Gardner, 1 Mueller-Müller.
@@ -97,7 +97,7 @@ pub(crate) fn no_params() -> TimingParams
 
 // The readings of a timing state.
 #[repr(C)]
-#[derive(Drop)]
+#[derive(Clone, Copy)]
 pub struct TimingReadings {
     // What it was set up with.
     pub values: TimingValues,

@@ -11,7 +11,7 @@ use values::Progress;
 
 // The state as a plain record.
 #[repr(C)]
-#[derive(Drop)]
+#[derive(Clone, Copy)]
 pub struct RealTiming {
     pub params: TimingParams,
     pub hist: Hist,
@@ -21,7 +21,7 @@ pub struct RealTiming {
 // L3: the answer of a set-up: its number, and the state where the number is 0. Where it is not, there is no
 // state: the record is all zeros, and no call may be given it.
 #[repr(C)]
-#[derive(Drop)]
+#[derive(Clone, Copy)]
 pub struct RealSetUp {
     pub number: u32,
     pub state: RealTiming,
@@ -104,7 +104,7 @@ pub fn answer_of(answer: real_sync::SetUp) -> RealSetUp
 }
 
 // The counts of a call, and the record after it.
-#[derive(Drop)]
+#[derive(Clone, Copy)]
 pub struct RealRan {
     pub counts: Progress,
     pub state: RealTiming,

@@ -11,8 +11,7 @@ use receiver::CarrierValues;
 
 // L3: a fresh state, or the lowest number of what is wrong with the values, whose ranges
 // stand at `CarrierValues`.
-#[unsafe(no_mangle)]
-pub extern "C" fn trr_carrier_set_up(constellation: u32, v: CarrierValues) -> CarrierSetUp
+pub fn trr_carrier_set_up(constellation: u32, v: CarrierValues) -> CarrierSetUp
     ensures outcome { result ≡ set_up_of (opened (constellation_of constellation) v.loop_bw v.damping v.max_offset) }
     ensures given { result.number ≡ 0 → Given result.state }
 {
@@ -25,8 +24,7 @@ pub extern "C" fn trr_carrier_set_up(constellation: u32, v: CarrierValues) -> Ca
 }
 
 // L5: the state after construction (C7). The parameters are kept.
-#[unsafe(no_mangle)]
-pub extern "C" fn trr_carrier_reset(x: Carrier) -> Carrier
+pub fn trr_carrier_reset(x: Carrier) -> Carrier
     requires { Given x }
     ensures state { result ≡ record_of (fresh (constellation_of x.constellation) x.params) }
     ensures given { Given result }
@@ -35,8 +33,7 @@ pub extern "C" fn trr_carrier_reset(x: Carrier) -> Carrier
 }
 
 // L5: sets the phase (C8), in units of 2^-32 turn.
-#[unsafe(no_mangle)]
-pub extern "C" fn trr_carrier_set_phase(x: Carrier, phase: u32) -> Carrier
+pub fn trr_carrier_set_phase(x: Carrier, phase: u32) -> Carrier
     requires { Given x }
     ensures state { result ≡ record_of (phase_set (state_of x) phase) }
     ensures given { Given result }
@@ -45,8 +42,7 @@ pub extern "C" fn trr_carrier_set_phase(x: Carrier, phase: u32) -> Carrier
 }
 
 // L5: sets the frequency integrator (C9), in cycles per symbol.
-#[unsafe(no_mangle)]
-pub extern "C" fn trr_carrier_set_frequency(x: Carrier, freq: f64) -> Carrier
+pub fn trr_carrier_set_frequency(x: Carrier, freq: f64) -> Carrier
     requires { Given x }
     ensures state { result ≡ record_of (frequency_set (state_of x) freq) }
     ensures given { Given result }
@@ -58,7 +54,7 @@ pub extern "C" fn trr_carrier_set_frequency(x: Carrier, freq: f64) -> Carrier
 
 // The readings of a carrier state.
 #[repr(C)]
-#[derive(Drop)]
+#[derive(Clone, Copy)]
 pub struct CarrierReadings {
     // 0 BPSK, 1 QPSK, 2 8-PSK.
     pub constellation: u32,
@@ -75,8 +71,7 @@ pub struct CarrierReadings {
 }
 
 // L5: the readings of the state (C21).
-#[unsafe(no_mangle)]
-pub extern "C" fn trr_carrier_readings(x: Carrier) -> CarrierReadings
+pub fn trr_carrier_readings(x: Carrier) -> CarrierReadings
     ensures { result ≡ carrier_readings x }
 {
     let values = CarrierValues {
@@ -99,8 +94,7 @@ pub extern "C" fn trr_carrier_readings(x: Carrier) -> CarrierReadings
 
 // L2: one call over a record that the caller lends, and that the call replaces by the new one. It answers a
 // number and no counts, since every input sample gives an output sample.
-#[unsafe(no_mangle)]
-pub extern "C" fn trr_carrier_run(x: &mut Carrier, input: &[f32], output: &mut [f32]) -> u32
+pub fn trr_carrier_run(x: &mut Carrier, input: &[f32], output: &mut [f32]) -> u32
     requires { Given x.old }
     ensures outcome { outcome_of result x.new output.new ≡ called (state_of x.old) input.now output.old }
     ensures given { Given x.new }

@@ -14,8 +14,7 @@ use values::Counts;
 
 // L3: a fresh state, or the lowest number of what is wrong with the values, whose ranges
 // stand at `TimingValues`.
-#[unsafe(no_mangle)]
-pub extern "C" fn trr_complex_set_up(v: TimingValues) -> ComplexSetUp
+pub fn trr_complex_set_up(v: TimingValues) -> ComplexSetUp
     ensures outcome { result ≡ set_up_of (opened_by complexOps (tuned v.sps (detector_of v.ted) v.loop_bw v.damping v.max_deviation v.ted_gain)) }
     ensures given { result.number ≡ 0 → Given result.state }
 {
@@ -30,8 +29,7 @@ pub extern "C" fn trr_complex_set_up(v: TimingValues) -> ComplexSetUp
 }
 
 // L5: the fresh state of the same parameters (T6).
-#[unsafe(no_mangle)]
-pub extern "C" fn trr_complex_reset(x: ComplexTiming) -> ComplexTiming
+pub fn trr_complex_reset(x: ComplexTiming) -> ComplexTiming
     requires { Given x }
     ensures state { result ≡ record_of (fresh complexOps (params_of x.params)) }
     ensures given { Given result }
@@ -40,8 +38,7 @@ pub extern "C" fn trr_complex_reset(x: ComplexTiming) -> ComplexTiming
 }
 
 // L5: the readings of the state (T21).
-#[unsafe(no_mangle)]
-pub extern "C" fn trr_complex_readings(x: ComplexTiming) -> TimingReadings
+pub fn trr_complex_readings(x: ComplexTiming) -> TimingReadings
     ensures { result ≡ readings_of x.params x.track.clock }
 {
     let p = x.params;
@@ -49,12 +46,7 @@ pub extern "C" fn trr_complex_readings(x: ComplexTiming) -> TimingReadings
 }
 
 // L2: one call over a record that the caller lends, and that the call replaces by the new one.
-#[unsafe(no_mangle)]
-pub extern "C" fn trr_complex_run(
-    x: &mut ComplexTiming,
-    input: &[f32],
-    output: &mut [f32],
-) -> Counts
+pub fn trr_complex_run(x: &mut ComplexTiming, input: &[f32], output: &mut [f32]) -> Counts
     requires { Given x.old }
     ensures outcome { outcome_of result x.new output.new ≡ called_complex (sync_of x.old) input.now output.old }
     ensures given { Given x.new }

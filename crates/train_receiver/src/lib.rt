@@ -1,11 +1,13 @@
-// The receiver, timing alone and the carrier alone for programs in C and Rust: what `rt staticlib` puts into
-// the archive. An exported type holds no enum, so a state is a plain record in which numbers stand for the
+// The receiver, timing alone and the carrier alone for programs in C and Rust: what `train_receiver_c` puts
+// into the archive under C names. An exported type holds no enum, so a state is a plain record in which numbers stand for the
 // enums (L1); each call turns the record into the state, and the state into a record again. bindings/
 // declares all of this for C and for Rust.
 //
 // Set-up, reset, setters and readings take and give records by value; a sample call replaces a record that
 // the caller lends. Nothing here requires anything but `Given` of a record: that a set-up, a reset, a setter
 // or a call of this library has given it, or that it is converted from such a one (A9).
+#![tactic(auto)]
+
 mod carrier_loop;
 mod complex_timing;
 mod convert;

@@ -15,8 +15,7 @@ use values::Progress;
 
 // L3: a fresh state, or the lowest number of what is wrong with the values, whose ranges
 // stand at `TimingValues`.
-#[unsafe(no_mangle)]
-pub extern "C" fn trr_real_set_up(v: TimingValues) -> RealSetUp
+pub fn trr_real_set_up(v: TimingValues) -> RealSetUp
     ensures outcome { result ≡ set_up_of (opened_by realOps (tuned v.sps (detector_of v.ted) v.loop_bw v.damping v.max_deviation v.ted_gain)) }
     ensures given { result.number ≡ 0 → Given result.state }
 {
@@ -31,8 +30,7 @@ pub extern "C" fn trr_real_set_up(v: TimingValues) -> RealSetUp
 }
 
 // L5: the fresh state of the same parameters (T6).
-#[unsafe(no_mangle)]
-pub extern "C" fn trr_real_reset(x: RealTiming) -> RealTiming
+pub fn trr_real_reset(x: RealTiming) -> RealTiming
     requires { Given x }
     ensures state { result ≡ record_of (fresh realOps (params_of x.params)) }
     ensures given { Given result }
@@ -41,8 +39,7 @@ pub extern "C" fn trr_real_reset(x: RealTiming) -> RealTiming
 }
 
 // L5: the readings of the state (T21).
-#[unsafe(no_mangle)]
-pub extern "C" fn trr_real_readings(x: RealTiming) -> TimingReadings
+pub fn trr_real_readings(x: RealTiming) -> TimingReadings
     ensures { result ≡ readings_of x.params x.track.clock }
 {
     let p = x.params;
@@ -51,8 +48,7 @@ pub extern "C" fn trr_real_readings(x: RealTiming) -> TimingReadings
 
 // L2: one call over a record that the caller lends, and that the call replaces by the new one.
 // It is never refused (T1).
-#[unsafe(no_mangle)]
-pub extern "C" fn trr_real_run(x: &mut RealTiming, input: &[f32], output: &mut [f32]) -> Progress
+pub fn trr_real_run(x: &mut RealTiming, input: &[f32], output: &mut [f32]) -> Progress
     requires { Given x.old }
     ensures outcome { outcome_of result (sync_of x.new) output.new ≡ called_real (sync_of x.old) input.now output.old }
     ensures given { Given x.new }

@@ -16,12 +16,7 @@ use values::{C32, Counts};
 
 // L3: a fresh receiver, or the number of what is wrong, with timing's values checked before the carrier's
 // (R4). The ranges stand at `TimingValues` and `CarrierValues`.
-#[unsafe(no_mangle)]
-pub extern "C" fn trr_receiver_set_up(
-    constellation: u32,
-    t: TimingValues,
-    c: CarrierValues,
-) -> ReceiverSetUp
+pub fn trr_receiver_set_up(constellation: u32, t: TimingValues, c: CarrierValues) -> ReceiverSetUp
     ensures outcome { result ≡ set_up_of (opened (constellation_of constellation) (values_of t) c) }
     ensures given { result.number ≡ 0 → Given result.receiver }
 {
@@ -30,8 +25,7 @@ pub extern "C" fn trr_receiver_set_up(
 
 // L3: a set-up for BPSK, where no constellation is named (R3). The ranges stand at
 // `TimingValues` and `CarrierValues`.
-#[unsafe(no_mangle)]
-pub extern "C" fn trr_receiver_set_up_unnamed(t: TimingValues, c: CarrierValues) -> ReceiverSetUp
+pub fn trr_receiver_set_up_unnamed(t: TimingValues, c: CarrierValues) -> ReceiverSetUp
     ensures outcome { result ≡ set_up_of (opened unnamed (values_of t) c) }
     ensures given { result.number ≡ 0 → Given result.receiver }
 {
@@ -39,8 +33,7 @@ pub extern "C" fn trr_receiver_set_up_unnamed(t: TimingValues, c: CarrierValues)
 }
 
 // L5: both loops as after the set-up, and a count of 0 (R7).
-#[unsafe(no_mangle)]
-pub extern "C" fn trr_receiver_reset(x: Receiver) -> Receiver
+pub fn trr_receiver_reset(x: Receiver) -> Receiver
     requires { Given x }
     ensures state { result ≡ record_of (restarted (receiver_of x)) }
     ensures given { Given result }
@@ -49,8 +42,7 @@ pub extern "C" fn trr_receiver_reset(x: Receiver) -> Receiver
 }
 
 // L5: sets the carrier's phase (R8), in units of 2^-32 turn.
-#[unsafe(no_mangle)]
-pub extern "C" fn trr_receiver_set_phase(x: Receiver, phase: u32) -> Receiver
+pub fn trr_receiver_set_phase(x: Receiver, phase: u32) -> Receiver
     requires { Given x }
     ensures state { result ≡ record_of (phase_set (receiver_of x) phase) }
     ensures given { Given result }
@@ -62,7 +54,7 @@ pub extern "C" fn trr_receiver_set_phase(x: Receiver, phase: u32) -> Receiver
 
 // The readings of a receiver.
 #[repr(C)]
-#[derive(Drop)]
+#[derive(Clone, Copy)]
 pub struct ReceiverReadings {
     pub timing: TimingReadings,
     pub carrier: CarrierReadings,
@@ -71,8 +63,7 @@ pub struct ReceiverReadings {
 }
 
 // L5: the readings of the receiver (R9).
-#[unsafe(no_mangle)]
-pub extern "C" fn trr_receiver_readings(x: Receiver) -> ReceiverReadings
+pub fn trr_receiver_readings(x: Receiver) -> ReceiverReadings
     ensures { result ≡ receiver_readings x }
 {
     let t = x.timing;
@@ -87,8 +78,7 @@ pub extern "C" fn trr_receiver_readings(x: Receiver) -> ReceiverReadings
 // ---- A call
 
 // L2: one call over a record that the caller lends, and that the call replaces by the new one.
-#[unsafe(no_mangle)]
-pub extern "C" fn trr_receiver_receive(
+pub fn trr_receiver_receive(
     x: &mut Receiver,
     input: &[f32],
     strobes: &mut [f32],
@@ -107,8 +97,7 @@ pub extern "C" fn trr_receiver_receive(
 
 // L11: the number of an output sample, the half plane under BPSK (R11), the quadrant under QPSK (R13), the
 // octant under 8-PSK (R12); 255 where it is none (R16).
-#[unsafe(no_mangle)]
-pub extern "C" fn trr_symbol_number(constellation: u32, re: f32, im: f32) -> usize
+pub fn trr_symbol_number(constellation: u32, re: f32, im: f32) -> usize
     ensures { result ≡ symbol_code (symbol_of (constellation_of constellation) (record { re = re; im = im })) }
 {
     let y = C32 { re: re, im: im };

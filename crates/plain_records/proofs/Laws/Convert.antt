@@ -7,7 +7,7 @@ use native.Mathlib.Omega.{arith}
 use borrow.Author.Tests.{lt-ltb, le-ltb, ltb-true, ltb-false}
 use lib.Dec.{lit<, ltb}
 use Rattle.values.specs.declared.error.Refusal.{Refusal}
-use Rattle.values.specs.declared.error.Refusal.TheVariants.{Pace, Width, Damping, Pull, Slope, Gains, Uneven, Odd}
+use Rattle.values.specs.declared.error.Refusal.TheVariants.{Pace, Width, Damping, Pull, Slope, Gains, Uneven, Odd, Undefined, Cut, Early}
 use Rattle.values.specs.Refusal.{number_of}
 use Rattle.receiver_records.specs.Records.{largest32}
 use Rattle.receiver_records.specs.Records as records
@@ -80,3 +80,6 @@ refused-below Slope = lit< tt
 refused-below Gains = lit< tt
 refused-below Uneven = lit< tt
 refused-below Odd = lit< tt
+refused-below Undefined = lit< tt
+refused-below Cut = lit< tt
+refused-below Early = lit< tt

@@ -1,0 +1,54 @@
+// The C names of `train_receiver::complex_timing`, under the same contracts.
+ghost use Rattle.std.specs.Prelude.{◌≡◌};
+ghost use Rattle.timing.specs.Sample.{complex as complexOps};
+ghost use Rattle.timing.specs.Setup.{tuned};
+ghost use Rattle.timing.specs.Run.{fresh, opened_by, called_complex};
+ghost use Rattle.plain.specs.Codes.{detector_of};
+ghost use Rattle.plain_timing.specs.Params.{params_of, readings_of};
+ghost use Rattle.plain_timing.specs.Complex.{sync_of, record_of, set_up_of, outcome_of, Given};
+
+use plain_timing::complex::{ComplexSetUp, ComplexTiming};
+use plain_timing::{TimingReadings, TimingValues};
+use values::Counts;
+
+// L3: a fresh state, or the lowest number of what is wrong with the values, whose ranges
+// stand at `TimingValues`.
+#[unsafe(no_mangle)]
+pub extern "C" fn trr_complex_set_up(v: TimingValues) -> ComplexSetUp
+    ensures outcome { result ≡ set_up_of (opened_by complexOps (tuned v.sps (detector_of v.ted) v.loop_bw v.damping v.max_deviation v.ted_gain)) }
+    ensures given { result.number ≡ 0 → Given result.state }
+{
+    train_receiver::trr_complex_set_up(v)
+}
+
+// L5: the fresh state of the same parameters (T6).
+#[unsafe(no_mangle)]
+pub extern "C" fn trr_complex_reset(x: ComplexTiming) -> ComplexTiming
+    requires { Given x }
+    ensures state { result ≡ record_of (fresh complexOps (params_of x.params)) }
+    ensures given { Given result }
+{
+    train_receiver::trr_complex_reset(x)
+}
+
+// L5: the readings of the state (T21).
+#[unsafe(no_mangle)]
+pub extern "C" fn trr_complex_readings(x: ComplexTiming) -> TimingReadings
+    ensures { result ≡ readings_of x.params x.track.clock }
+{
+    train_receiver::trr_complex_readings(x)
+}
+
+// L2: one call over a record that the caller lends, and that the call replaces by the new one.
+#[unsafe(no_mangle)]
+pub extern "C" fn trr_complex_run(
+    x: &mut ComplexTiming,
+    input: &[f32],
+    output: &mut [f32],
+) -> Counts
+    requires { Given x.old }
+    ensures outcome { outcome_of result x.new output.new ≡ called_complex (sync_of x.old) input.now output.old }
+    ensures given { Given x.new }
+{
+    train_receiver::trr_complex_run(x, input, output)
+}
