@@ -1,5 +1,7 @@
 // The lines of recorded answers: reading one, its words as floats, and comparing them with what was computed; and
 // comparing two slices.
+#![tactic(auto)]
+
 mod compare;
 mod hex;
 mod line;

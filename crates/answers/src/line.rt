@@ -5,7 +5,7 @@ ghost use Rattle.answers.specs.Line.{asked, asking, reading_of, spaced};
 use crate::hex::{Word, read_word};
 
 // What a line asks: the function's letter, the words of its arguments and of its answer.
-#[derive(Drop)]
+#[derive(Clone, Copy)]
 pub struct Operation {
     pub letter: u8,
     pub x: u64,
@@ -13,7 +13,7 @@ pub struct Operation {
     pub answer: u64,
 }
 
-#[derive(Drop)]
+#[derive(Clone, Copy)]
 pub enum Reading {
     Asks(Operation),
     Malformed,

@@ -8,7 +8,7 @@ use values::counts_of;
 
 // What the calls have come to: the last receiver, the number of the last call's refusal or 0, how many f32
 // of the input were handed over, and the sums of the counts.
-#[derive(Drop)]
+#[derive(Clone, Copy)]
 pub(crate) struct Received {
     pub receiver: Receiver,
     pub number: u32,

@@ -45,6 +45,7 @@ fn same_received(a: Received, b: Received) -> bool
 // Counts a cut: it agrees if it gives what the recording received whole gave. The buffers are compared to
 // their ends, since no call writes behind its symbols. A cut that differs is written.
 fn judge(
+    rt: &impl Print,
     t: Tally,
     cut: Cut,
     own: Received,
@@ -61,12 +62,13 @@ fn judge(
         same_floats(own_output, output),
     );
     let agrees = both(same_received(own, whole), buffers);
-    report::cut(cut, agrees);
+    report::cut(rt, cut, agrees);
     tally::count(t, agrees)
 }
 
 // Receives a cut of the recording, and compares it with the whole.
 fn compare_cut(
+    rt: &impl Print,
     t: Tally,
     cut: Cut,
     r: Receiver,
@@ -81,6 +83,7 @@ fn compare_cut(
     let mut own_output = [0.0f32; 8192];
     let own = receive(r, cut, input, &mut own_strobes, &mut own_output);
     judge(
+        rt,
         t,
         cut,
         own,
@@ -93,7 +96,7 @@ fn compare_cut(
 }
 
 // Receives the recording whole, and then cut by cut.
-fn compare_received(r: Receiver, input: &[f32]) -> Tally
+fn compare_received(rt: &impl Print, r: Receiver, input: &[f32]) -> Tally
     requires { Given r }
 {
     let mut strobes = [0.0f32; 8192];
@@ -102,18 +105,18 @@ fn compare_received(r: Receiver, input: &[f32]) -> Tally
     let mut t = tally::start(whole.consumed as u64, whole.produced as u64);
     let mut k = 0;
     while k < cuts::CUTS {
-        t = compare_cut(t, cuts::cut_at(k), r, input, whole, &strobes, &output);
+        t = compare_cut(rt, t, cuts::cut_at(k), r, input, whole, &strobes, &output);
         k += 1;
     }
     t
 }
 
 // A set-up that is refused receives nothing, and all its cuts differ.
-pub(crate) fn compare_cuts(answer: SetUp, input: &[f32]) -> Tally
+pub(crate) fn compare_cuts(rt: &impl Print, answer: SetUp, input: &[f32]) -> Tally
     requires { SetUpGiven answer }
 {
     match answer {
-        SetUp::Ready(r) => compare_received(r, input),
+        SetUp::Ready(r) => compare_received(rt, r, input),
         SetUp::Refused(_) => Tally {
             consumed: 0,
             produced: 0,

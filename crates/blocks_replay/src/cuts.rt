@@ -1,7 +1,7 @@
 // The ways in which the recording of 4,000 samples is cut.
 
 // How many samples each block has, and for how many symbols each call has places.
-#[derive(Drop)]
+#[derive(Clone, Copy)]
 pub(crate) struct Cut {
     pub block: usize,
     pub places: usize,

@@ -4,6 +4,8 @@
 //
 // The recording has 4,000 complex f32 samples, little-endian, real part first. Both detectors and all
 // constellations receive it, as recorded and with parts of its samples damaged.
+#![tactic(auto)]
+
 mod calls;
 mod compare;
 mod cuts;
@@ -12,42 +14,42 @@ mod report;
 mod set_ups;
 mod tally;
 
-use libc::STDIN_FILENO;
 use tally::Tally;
 
 // How many bytes a recording has.
 const BYTES: usize = 32000;
 
 // Compares the cuts of a recording under a set-up, and writes the line of it.
-fn show(code: u64, input: &[f32], name: &[u8]) -> Tally {
-    report::heading(code, name);
-    let tally = compare::compare_cuts(set_ups::set_up(code), input);
-    report::line(tally);
+fn show(rt: &impl Print, code: u64, input: &[f32], name: &[u8]) -> Tally {
+    report::heading(rt, code, name);
+    let tally = compare::compare_cuts(rt, set_ups::set_up(code), input);
+    report::line(rt, tally);
     tally
 }
 
 // Every set-up receives both recordings.
-fn compare_all(recorded: &[f32], damaged: &[f32]) -> Tally {
+fn compare_all(rt: &impl Print, recorded: &[f32], damaged: &[f32]) -> Tally {
     let mut total = tally::start(0, 0);
     let mut code = 0;
     while code < set_ups::SET_UPS {
-        total = tally::added(total, show(code, recorded, b"as recorded"));
-        total = tally::added(total, show(code, damaged, b"damaged"));
+        total = tally::added(total, show(rt, code, recorded, b"as recorded"));
+        total = tally::added(total, show(rt, code, damaged, b"damaged"));
         code += 1;
     }
     total
 }
 
-fn main() {
+fn main(rt: HostRuntime) {
+    let mut reader = rt.reader();
     let mut bytes = [0u8; 32008];
-    let n = io::read_full(STDIN_FILENO, &mut bytes);
+    let n = replay::read_full(&mut reader, &mut bytes);
     if n != BYTES {
-        report::wrong_length();
+        report::wrong_length(&rt);
         return;
     }
     let mut recorded = [0.0f32; 8000];
     recordings::read_samples(&bytes[..n], &mut recorded);
     let mut damaged = recorded;
     damage::damage(&mut damaged);
-    report::total(compare_all(&recorded, &damaged));
+    report::total(&rt, compare_all(&rt, &recorded, &damaged));
 }

@@ -1,63 +1,62 @@
-// What the program writes. No contract can say what is written to a file.
+// What the program writes. No contract can say what is written to a file, and a write that fails is passed over.
 use crate::cuts::Cut;
 use crate::tally::Tally;
-use libc::STDOUT_FILENO;
 
-fn write(text: &[u8]) {
-    io::write_all(STDOUT_FILENO, text);
+fn write(rt: &impl Print, text: &[u8]) {
+    let _ = rt.write_all(text);
 }
 
-fn number(n: u64) {
-    io::print_decimal(STDOUT_FILENO, n);
+fn number(rt: &impl Print, n: u64) {
+    let _ = print!(rt; "{n}");
 }
 
 // Begins the line of a set-up and a recording.
-pub(crate) fn heading(code: u64, name: &[u8]) {
+pub(crate) fn heading(rt: &impl Print, code: u64, name: &[u8]) {
     if code < 3 {
-        write(b"Gardner");
+        write(rt, b"Gardner");
     } else {
-        write(b"Mueller-M\xc3\xbcller");
+        write(rt, b"Mueller-M\xc3\xbcller");
     }
     let constellation = code % 3;
     match constellation {
-        0 => write(b", BPSK, "),
-        1 => write(b", QPSK, "),
-        _ => write(b", 8-PSK, "),
+        0 => write(rt, b", BPSK, "),
+        1 => write(rt, b", QPSK, "),
+        _ => write(rt, b", 8-PSK, "),
     }
-    write(name);
-    write(b": ");
+    write(rt, name);
+    write(rt, b": ");
 }
 
 // Names a cut, if it differs.
-pub(crate) fn cut(cut: Cut, agrees: bool) {
+pub(crate) fn cut(rt: &impl Print, cut: Cut, agrees: bool) {
     if agrees {
         return;
     }
-    write(b"blocks of ");
-    number(cut.block as u64);
-    write(b" with ");
-    number(cut.places as u64);
-    write(b" places differ, ");
+    write(rt, b"blocks of ");
+    number(rt, cut.block as u64);
+    write(rt, b" with ");
+    number(rt, cut.places as u64);
+    write(rt, b" places differ, ");
 }
 
 // Writes how many cuts there are, and how many of them differ.
-pub(crate) fn total(t: Tally) {
-    number(t.cuts);
-    write(b" cuts, ");
-    number(t.differ);
-    write(b" differ\n");
+pub(crate) fn total(rt: &impl Print, t: Tally) {
+    number(rt, t.cuts);
+    write(rt, b" cuts, ");
+    number(rt, t.differ);
+    write(rt, b" differ\n");
 }
 
 // Ends the line.
-pub(crate) fn line(t: Tally) {
-    number(t.consumed);
-    write(b" samples, ");
-    number(t.produced);
-    write(b" symbols, ");
-    total(t);
+pub(crate) fn line(rt: &impl Print, t: Tally) {
+    number(rt, t.consumed);
+    write(rt, b" samples, ");
+    number(rt, t.produced);
+    write(rt, b" symbols, ");
+    total(rt, t);
 }
 
 // Says that the input is not a recording of the length expected.
-pub(crate) fn wrong_length() {
-    write(b"the input is not 4000 samples\n");
+pub(crate) fn wrong_length(rt: &impl Print) {
+    write(rt, b"the input is not 4000 samples\n");
 }

@@ -4,7 +4,7 @@ ghost use Rattle.blocks_replay.specs.Compare.{sum_of, one_cut, counted};
 
 // What was compared: the counts of the recording received whole, how many cuts, and how many of them
 // differ from it.
-#[derive(Drop)]
+#[derive(Clone, Copy)]
 pub(crate) struct Tally {
     pub consumed: u64,
     pub produced: u64,

@@ -20,25 +20,25 @@ pub(crate) fn place(letter: u8) -> usize {
     }
 }
 
-fn show_calls(tally: &[u64; 16]) {
-    show_at(tally, 0, b"set_up");
-    show_at(tally, 1, b"reset");
-    show_at(tally, 2, b"set_phase");
-    show_at(tally, 3, b"set_frequency");
-    show_at(tally, 4, b"run");
-    show_at(tally, 5, b"output");
+fn show_calls(rt: &impl Print, tally: &[u64; 16]) {
+    show_at(rt, tally, 0, b"set_up");
+    show_at(rt, tally, 1, b"reset");
+    show_at(rt, tally, 2, b"set_phase");
+    show_at(rt, tally, 3, b"set_frequency");
+    show_at(rt, tally, 4, b"run");
+    show_at(rt, tally, 5, b"output");
 }
 
-fn show_state(tally: &[u64; 16]) {
-    show_at(tally, 6, b"values");
-    show_at(tally, 7, b"gains");
-    show_at(tally, 8, b"oscillator");
-    show_at(tally, 9, b"lock");
+fn show_state(rt: &impl Print, tally: &[u64; 16]) {
+    show_at(rt, tally, 6, b"values");
+    show_at(rt, tally, 7, b"gains");
+    show_at(rt, tally, 8, b"oscillator");
+    show_at(rt, tally, 9, b"lock");
 }
 
 // Writes the counts.
-pub(crate) fn show(tally: &[u64; 16], damaged: &[u64; 16]) {
-    show_calls(tally);
-    show_state(tally);
-    tally::show_end(tally, damaged);
+pub(crate) fn show(rt: &impl Print, tally: &[u64; 16], damaged: &[u64; 16]) {
+    show_calls(rt, tally);
+    show_state(rt, tally);
+    tally::show_end(rt, tally, damaged);
 }

@@ -19,6 +19,8 @@
 //   k  kp, ki, the limit
 //   s  phase, frequency as the f32 that it is, the reading of it
 //   l  lock level, locked, constellation
+#![tactic(auto)]
+
 mod counts;
 mod state;
 
@@ -27,11 +29,12 @@ ghost use Rattle.replay.specs.Tally.{Tallied};
 
 use answers::Operation;
 use carrier::{CostasConstellation, CostasState, SetUp};
-use libc::STDIN_FILENO;
 use replay::{LINES, buffers, tally};
+use std::io::Read;
 
 // Plays an operation, and counts it.
 fn play(
+    rt: &impl Print,
     s: CostasState,
     op: Operation,
     line: &[u8],
@@ -46,12 +49,13 @@ fn play(
 {
     let mut agrees = buffers::play(op, values, input, output);
     let after = state::play(s, op, values, input, output, &mut agrees);
-    tally::count_line(tally, counts::place(op.letter), line, agrees);
+    tally::count_line(rt, tally, counts::place(op.letter), line, agrees);
     after
 }
 
 // Plays a damaged operation, which must be counted as differing. It has no other effect.
 fn play_damaged(
+    rt: &impl Print,
     s: CostasState,
     op: Operation,
     values: &[u64; 5],
@@ -65,11 +69,21 @@ fn play_damaged(
     let mut values = *values;
     let mut input = *input;
     let mut output = *output;
-    play(s, op, b"", &mut values, &mut input, &mut output, damaged);
+    play(
+        rt,
+        s,
+        op,
+        b"",
+        &mut values,
+        &mut input,
+        &mut output,
+        damaged,
+    );
 }
 
 // Plays a line, first damaged and then as it is.
 fn play_line(
+    rt: &impl Print,
     s: CostasState,
     line: &[u8],
     values: &mut [u64; 5],
@@ -83,13 +97,19 @@ fn play_line(
     ensures tallied { Tallied 1 tally.old tally.new }
 {
     let op = answers::read_operation(line);
-    play_damaged(s, op, values, input, output, damaged);
-    play(s, op, line, values, input, output, tally)
+    play_damaged(rt, s, op, values, input, output, damaged);
+    play(rt, s, op, line, values, input, output, tally)
 }
 
 // Plays line after line, up to the end of the input, and says how many. What is left there after the last
 // whole line counts as a line too.
-fn play_lines(first: CostasState, tally: &mut [u64; 16], damaged: &mut [u64; 16]) -> u64
+fn play_lines(
+    rt: &impl Print,
+    reader: &mut impl Read,
+    first: CostasState,
+    tally: &mut [u64; 16],
+    damaged: &mut [u64; 16],
+) -> u64
     requires { Given first }
     ensures { Tallied result tally.old tally.new }
 {
@@ -100,11 +120,12 @@ fn play_lines(first: CostasState, tally: &mut [u64; 16], damaged: &mut [u64; 16]
     let mut count = 0;
     while count < LINES {
         let mut line = [0u8; 53];
-        let n = io::read_full(STDIN_FILENO, &mut line);
+        let n = replay::read_full(reader, &mut line);
         if n == 0 {
             return count;
         }
         s = play_line(
+            rt,
             s,
             &line[..n],
             &mut values,
@@ -119,14 +140,15 @@ fn play_lines(first: CostasState, tally: &mut [u64; 16], damaged: &mut [u64; 16]
 }
 
 // Some state is there before the first line sets up its own.
-fn main() {
+fn main(rt: HostRuntime) {
+    let mut reader = rt.reader();
     let mut tally = [0; 16];
     let mut damaged = tally::of_damaged();
     let mut lines = 0;
     match carrier::set_up(CostasConstellation::Bpsk, 0.01, 0.7, 0.1) {
-        SetUp::Ready(s) => lines = play_lines(s, &mut tally, &mut damaged),
+        SetUp::Ready(s) => lines = play_lines(&rt, &mut reader, s, &mut tally, &mut damaged),
         SetUp::Refused(_) => {}
     }
-    tally::too_long(&mut tally, lines);
-    counts::show(&tally, &damaged);
+    tally::too_long(&rt, &mut tally, lines);
+    counts::show(&rt, &tally, &damaged);
 }

@@ -4,7 +4,7 @@ use plain_timing::TimingValues;
 use receiver::CarrierValues;
 
 // The last line of each kind.
-#[derive(Drop)]
+#[derive(Clone, Copy)]
 pub(crate) struct Asked {
     pub timing: Operation,
     pub carrier: Operation,

@@ -20,15 +20,15 @@ pub(crate) fn place(letter: u8) -> usize {
 }
 
 // Writes the counts.
-pub(crate) fn show(tally: &[u64; 16], damaged: &[u64; 16]) {
-    show_at(tally, 0, b"set_up");
-    show_at(tally, 1, b"reset");
-    show_at(tally, 2, b"set_phase");
-    show_at(tally, 3, b"call");
-    show_at(tally, 4, b"strobes");
-    show_at(tally, 5, b"output");
-    show_at(tally, 6, b"symbol_number");
-    show_at(tally, 7, b"reading");
-    show_at(tally, 8, b"conversion");
-    tally::show_end(tally, damaged);
+pub(crate) fn show(rt: &impl Print, tally: &[u64; 16], damaged: &[u64; 16]) {
+    show_at(rt, tally, 0, b"set_up");
+    show_at(rt, tally, 1, b"reset");
+    show_at(rt, tally, 2, b"set_phase");
+    show_at(rt, tally, 3, b"call");
+    show_at(rt, tally, 4, b"strobes");
+    show_at(rt, tally, 5, b"output");
+    show_at(rt, tally, 6, b"symbol_number");
+    show_at(rt, tally, 7, b"reading");
+    show_at(rt, tally, 8, b"conversion");
+    tally::show_end(rt, tally, damaged);
 }

@@ -6,6 +6,8 @@
 // two places at most, so that its input, its strobe buffer and its output are a line each. A set-up is
 // compared with those of the loops alone too. Played are the letters v, c, n, u, z, p, j, x, i, r, t, o, m, a,
 // b, d, q and e.
+#![tactic(auto)]
+
 mod asked;
 mod call;
 mod convert;
@@ -21,12 +23,13 @@ ghost use Rattle.replay.specs.Tally.{Tallied};
 
 use answers::Operation;
 use asked::Asked;
-use libc::STDIN_FILENO;
 use play::Played;
 use replay::{LINES, tally};
+use std::io::Read;
 
 // Plays an operation on what the last one left, and counts it.
 fn count_played(
+    rt: &impl Print,
     last: Played,
     asked: Asked,
     op: Operation,
@@ -38,12 +41,13 @@ fn count_played(
     ensures tallied { Tallied 1 tally.old tally.new }
 {
     let played = play::play(last, asked, op);
-    tally::count_line(tally, counts::place(op.letter), line, played.agrees);
+    tally::count_line(rt, tally, counts::place(op.letter), line, played.agrees);
     played
 }
 
 // Plays a line, first damaged, which must be counted as differing, and then as it is.
 fn play_line(
+    rt: &impl Print,
     last: Played,
     asked: Asked,
     op: Operation,
@@ -56,13 +60,18 @@ fn play_line(
     ensures tallied { Tallied 1 tally.old tally.new }
 {
     let wrong = answers::damaged(op, tally::played(damaged));
-    count_played(last, asked, wrong, line, damaged);
-    count_played(last, asked, op, line, tally)
+    count_played(rt, last, asked, wrong, line, damaged);
+    count_played(rt, last, asked, op, line, tally)
 }
 
 // Plays line after line, up to the end of the input, and says how many. What is left there after the last
 // whole line counts as a line too.
-fn play_lines(tally: &mut [u64; 16], damaged: &mut [u64; 16]) -> u64
+fn play_lines(
+    rt: &impl Print,
+    reader: &mut impl Read,
+    tally: &mut [u64; 16],
+    damaged: &mut [u64; 16],
+) -> u64
     ensures { Tallied result tally.old tally.new }
 {
     let mut lines = asked::nothing();
@@ -70,22 +79,23 @@ fn play_lines(tally: &mut [u64; 16], damaged: &mut [u64; 16]) -> u64
     let mut count = 0;
     while count < LINES {
         let mut line = [0u8; 53];
-        let n = io::read_full(STDIN_FILENO, &mut line);
+        let n = replay::read_full(reader, &mut line);
         if n == 0 {
             return count;
         }
         let op = answers::read_operation(&line[..n]);
         lines = asked::note(lines, op);
-        played = play_line(played, lines, op, &line[..n], tally, damaged);
+        played = play_line(rt, played, lines, op, &line[..n], tally, damaged);
         count += 1;
     }
     count
 }
 
-fn main() {
+fn main(rt: HostRuntime) {
+    let mut reader = rt.reader();
     let mut tally = [0; 16];
     let mut damaged = tally::of_damaged();
-    let lines = play_lines(&mut tally, &mut damaged);
-    tally::too_long(&mut tally, lines);
-    counts::show(&tally, &damaged);
+    let lines = play_lines(&rt, &mut reader, &mut tally, &mut damaged);
+    tally::too_long(&rt, &mut tally, lines);
+    counts::show(&rt, &tally, &damaged);
 }

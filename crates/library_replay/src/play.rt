@@ -9,7 +9,7 @@ use crate::slot::Slot;
 use answers::{Operation, words_agree};
 
 // The receiver after a line, what the last call left in the buffers, and whether the line agrees.
-#[derive(Drop)]
+#[derive(Clone, Copy)]
 pub(crate) struct Played {
     pub slot: Slot,
     pub strobes: Six,

@@ -12,7 +12,7 @@ use values::Counts;
 const SIX: usize = 6;
 
 // Six f32, as a line has them.
-#[derive(Drop)]
+#[derive(Clone, Copy)]
 pub(crate) struct Six {
     pub x: u64,
     pub y: u64,
@@ -20,7 +20,7 @@ pub(crate) struct Six {
 }
 
 // What a call left.
-#[derive(Drop)]
+#[derive(Clone, Copy)]
 pub(crate) struct Ran {
     pub receiver: Receiver,
     pub strobes: Six,

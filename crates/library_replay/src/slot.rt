@@ -15,7 +15,7 @@ use train_receiver::{
 };
 
 // The receiver, once a set-up was accepted.
-#[derive(Drop)]
+#[derive(Clone, Copy)]
 pub(crate) enum Slot {
     Empty,
     Ready(Receiver),

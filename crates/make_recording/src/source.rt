@@ -24,7 +24,7 @@ const START_PHASE: u32 = 0x1555_5555;
 pub(crate) const PHASE_STEP: u32 = 0x20_c49c;
 
 // The generator's state, the symbol that is left, the one that comes, and the phase of the next sample.
-#[derive(Drop)]
+#[derive(Clone, Copy)]
 pub(crate) struct Source {
     pub state: u32,
     pub from: C32,

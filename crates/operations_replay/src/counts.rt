@@ -31,42 +31,48 @@ pub(crate) fn agrees(tally: &mut [u64; 16], letter: u8)
 }
 
 // Counts a line whose recorded answer is not the computed one, and shows the first 20 of them.
-pub(crate) fn differs(tally: &mut [u64; 16], letter: u8, line: &[u8], computed: u64)
+pub(crate) fn differs(
+    rt: &impl Print,
+    tally: &mut [u64; 16],
+    letter: u8,
+    line: &[u8],
+    computed: u64,
+)
     ensures { Tallied 1 tally.old tally.new }
 {
     if tally::shows_more(tally) {
-        replay::differs(line, computed);
+        replay::differs(rt, line, computed);
     }
     tally::count(tally, place(letter), false);
 }
 
 // Counts a line that is not an operation as one that differs.
-pub(crate) fn malformed(tally: &mut [u64; 16], line: &[u8])
+pub(crate) fn malformed(rt: &impl Print, tally: &mut [u64; 16], line: &[u8])
     ensures { Tallied 1 tally.old tally.new }
 {
     if tally::shows_more(tally) {
-        replay::malformed(line);
+        replay::malformed(rt, line);
     }
     tally::count(tally, tally::MALFORMED, false);
 }
 
-fn show_numbers(tally: &[u64; 16]) {
-    show_at(tally, 0, b"floor");
-    show_at(tally, 1, b"narrow");
-    show_at(tally, 2, b"widen");
-    show_at(tally, 3, b"flush_denormal");
-    show_at(tally, 4, b"flush_denormal_f64");
-    show_at(tally, 5, b"limit_f32");
-    show_at(tally, 6, b"limit_f64");
-    show_at(tally, 7, b"is_finite_f32");
-    show_at(tally, 8, b"is_finite_f64");
+fn show_numbers(rt: &impl Print, tally: &[u64; 16]) {
+    show_at(rt, tally, 0, b"floor");
+    show_at(rt, tally, 1, b"narrow");
+    show_at(rt, tally, 2, b"widen");
+    show_at(rt, tally, 3, b"flush_denormal");
+    show_at(rt, tally, 4, b"flush_denormal_f64");
+    show_at(rt, tally, 5, b"limit_f32");
+    show_at(rt, tally, 6, b"limit_f64");
+    show_at(rt, tally, 7, b"is_finite_f32");
+    show_at(rt, tally, 8, b"is_finite_f64");
 }
 
 // Writes the counts.
-pub(crate) fn show(tally: &[u64; 16], damaged: &[u64; 16]) {
-    show_numbers(tally);
-    show_at(tally, 9, b"interp_f32_pair");
-    show_at(tally, 10, b"phase_step_f32");
-    show_at(tally, 11, b"phase_step");
-    tally::show_end(tally, damaged);
+pub(crate) fn show(rt: &impl Print, tally: &[u64; 16], damaged: &[u64; 16]) {
+    show_numbers(rt, tally);
+    show_at(rt, tally, 9, b"interp_f32_pair");
+    show_at(rt, tally, 10, b"phase_step_f32");
+    show_at(rt, tally, 11, b"phase_step");
+    tally::show_end(rt, tally, damaged);
 }

@@ -3,7 +3,7 @@ use answers::{HIGH, Operation};
 use mix::Pair;
 
 // Whether the computed answer agrees with the recorded one. If not, the computed one's word.
-#[derive(Drop)]
+#[derive(Clone, Copy)]
 pub(crate) enum Verdict {
     Agrees,
     Differs(u64),

@@ -5,6 +5,7 @@ ghost use Rattle.receive_recording.specs.Block.{call_on, called_of, ended_by, re
 
 use crate::report;
 use receiver::Receiver;
+use std::io;
 use values::Counts;
 
 // How many f32 are lent for the symbols of a call: two for each of 256.
@@ -12,7 +13,7 @@ const PLACES: usize = 512;
 
 // A call: its number and counts, the receiver after it, and how many symbols read none up to then; and
 // whether its symbols could be written.
-#[derive(Drop)]
+#[derive(Clone, Copy)]
 pub(crate) struct Called {
     pub counts: Counts,
     pub receiver: Receiver,
@@ -22,7 +23,7 @@ pub(crate) struct Called {
 
 // A block: the number of the refusal that ended it or 0, the receiver after it, and how many symbols read
 // none up to then; and whether its symbols could be written.
-#[derive(Drop)]
+#[derive(Clone, Copy)]
 pub(crate) struct Received {
     pub number: u32,
     pub receiver: Receiver,
@@ -32,7 +33,13 @@ pub(crate) struct Received {
 
 // One call, with places for 256 symbols. Those that it produces are written. Before it `none` symbols
 // read none.
-fn call(r: Receiver, none: u64, input: &[f32]) -> Called
+fn call(
+    rt: &impl Print,
+    failure: &mut Option<io::Error>,
+    r: Receiver,
+    none: u64,
+    input: &[f32],
+) -> Called
     requires { Given r }
     ensures outcome { result ≡ called_of none (call_on r input.now) result.written }
     ensures given { Given result.receiver }
@@ -47,7 +54,7 @@ fn call(r: Receiver, none: u64, input: &[f32]) -> Called
         counts: counts,
         receiver: after,
         none: recordings::none_with(none, &output, counts.produced),
-        written: report::symbols(r, &output, counts.produced),
+        written: report::symbols(rt, failure, r, &output, counts.produced),
     }
 }
 
@@ -67,7 +74,13 @@ fn ended_by(last: Called) -> Received
 // Calls with what is left of the block until all of it is consumed or nothing is produced, or until
 // symbols could not be written. A proved loop has to end: as many calls are made at most as the block
 // has f32.
-pub(crate) fn receive(r: Receiver, before: u64, input: &[f32]) -> Received
+pub(crate) fn receive(
+    rt: &impl Print,
+    failure: &mut Option<io::Error>,
+    r: Receiver,
+    before: u64,
+    input: &[f32],
+) -> Received
     requires { Given r }
     ensures outcome { T result.written → result ≡ received (length input.now) r before input.now }
     ensures given { Given result.receiver }
@@ -77,7 +90,7 @@ pub(crate) fn receive(r: Receiver, before: u64, input: &[f32]) -> Received
     let mut at = 0;
     let mut left = input.len();
     while left > 0 {
-        let called = call(receiver, none, &input[at..]);
+        let called = call(rt, failure, receiver, none, &input[at..]);
         let whole = (input.len() - at) / 2;
         if !called.written || called.counts.produced == 0 || called.counts.consumed >= whole {
             return ended_by(called);

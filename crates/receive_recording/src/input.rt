@@ -1,53 +1,67 @@
 // Standard input, block by block: the end of the input is told from a read that fails.
 ghost use Rattle.std.specs.Prelude.{◌≤◌, length};
-ghost use Rattle.io.specs.Counts.{IsPrefixLen};
+ghost use Rattle.receive_recording.specs.Counts.{IsPrefixLen};
 
-use libc::{EINTR, STDIN_FILENO};
+use std::io;
+use std::io::{ErrorKind, Read};
 
 // How often a read is tried again that a signal interrupts before it has read a byte.
 const RETRIES: u32 = 1000;
 
-// How many bytes were read into the front of a buffer, and whether a read failed behind them.
-#[derive(Drop)]
+// How many bytes were read into the front of a buffer, and why a read failed behind them, if one did.
+#[derive(Clone, Copy)]
 pub(crate) struct Filled {
     pub count: usize,
-    pub failed: bool,
+    pub failed: Option<io::Error>,
 }
 
 // One read. It reads no byte at the end of the input, and where it fails.
-fn read_once(buf: &mut [u8]) -> Filled
+fn read_once<R: Read>(input: &mut R, buf: &mut [u8]) -> Filled
     ensures { result.count ≤ length buf.old }
 {
-    let got = libc::read(STDIN_FILENO, buf);
-    Filled {
-        count: io::count(got, buf),
-        failed: got < 0,
+    match input.read(buf) {
+        Ok(n) => Filled {
+            count: n,
+            failed: None,
+        },
+        Err(e) => Filled {
+            count: 0,
+            failed: Some(e),
+        },
+    }
+}
+
+// Whether a signal interrupted the read.
+fn was_interrupted(got: Filled) -> bool {
+    match got.failed {
+        Some(e) => e.kind() == ErrorKind::Interrupted,
+        None => false,
     }
 }
 
 // One read, tried again where a signal interrupts it.
-fn read_some(buf: &mut [u8]) -> Filled
+fn read_some<R: Read>(input: &mut R, buf: &mut [u8]) -> Filled
     ensures { result.count ≤ length buf.old }
 {
     let mut left = RETRIES;
     while left > 0 {
-        let got = read_once(buf);
-        if !got.failed || os::errno() != EINTR {
+        let got = read_once(input, buf);
+        if !was_interrupted(got) {
             return got;
         }
         left -= 1;
     }
-    read_once(buf)
+    read_once(input, buf)
 }
 
 // Reads until the buffer is full, the input ends or a read fails. Where none fails and the buffer is
 // not full, the input has ended.
-pub(crate) fn fill(buf: &mut [u8]) -> Filled
+pub(crate) fn fill<R: Read>(input: &mut R, buf: &mut [u8]) -> Filled
     ensures { IsPrefixLen result.count buf.new }
 {
     let mut count = 0;
     while count < buf.len() {
-        let got = read_some(&mut buf[count..]);
+        let got = read_some(input, &mut buf[count..]);
         if got.count == 0 {
             return Filled {
                 count: count,
@@ -58,6 +72,6 @@ pub(crate) fn fill(buf: &mut [u8]) -> Filled
     }
     Filled {
         count: count,
-        failed: false,
+        failed: None,
     }
 }

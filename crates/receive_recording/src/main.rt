@@ -3,6 +3,8 @@
 // none, 64 to a line; at the end how many symbols there are, how many of them read none, the pace, and
 // whether the carrier is locked; and a remark if no sample is finite and not silent.
 // What goes wrong is said on error output, and ends the program.
+#![tactic(auto)]
+
 mod block;
 mod input;
 mod output;
@@ -14,6 +16,8 @@ ghost use Rattle.receiver.specs.Record.{Given};
 use carrier::CostasConstellation;
 use receiver::{Receiver, SetUp};
 use recordings::Content;
+use std::env::{Env, FillError};
+use std::io::Read;
 use timing::Ted;
 
 // A proved loop has to end, and nothing says that the input does. So many blocks are read at most, 2^64
@@ -30,7 +34,7 @@ const SAMPLE: usize = 8;
 
 // How far the recording is received: the receiver, how many symbols read none, what the samples so far
 // are, and whether more are to be read.
-#[derive(Drop)]
+#[derive(Clone, Copy)]
 struct Sofar {
     receiver: Receiver,
     none: u64,
@@ -53,27 +57,28 @@ fn stopped(s: Sofar) -> Sofar
 }
 
 // Writes the summary. It is said if that fails, or if the input ends inside a sample.
-fn conclude(s: Sofar, cut: bool) {
+fn conclude(rt: &(impl Print + Eprint), s: Sofar, cut: bool) {
     let receiver = s.receiver;
     let content = s.content;
-    if !report::summary(receiver, s.none, content) {
-        report::not_written();
+    let mut failure = None;
+    if !report::summary(rt, &mut failure, receiver, s.none, content) {
+        report::not_written(rt, failure);
         return;
     }
     if cut {
-        report::cut_short();
+        report::cut_short(rt);
     }
 }
 
 // Receives the next block; behind the last one it writes the summary.
-fn advance(s: Sofar) -> Sofar
+fn advance(rt: &(impl Print + Eprint), reader: &mut impl Read, s: Sofar) -> Sofar
     requires { Given s.receiver }
     ensures { Given result.receiver }
 {
     let mut bytes = [0u8; BLOCK];
-    let filled = input::fill(&mut bytes);
-    if filled.failed {
-        report::not_read();
+    let filled = input::fill(reader, &mut bytes);
+    if let Some(why) = filled.failed {
+        report::not_read(rt, why);
         return stopped(s);
     }
     let n = filled.count;
@@ -81,14 +86,15 @@ fn advance(s: Sofar) -> Sofar
     let parts = 2 * recordings::read_samples(&bytes[..n], &mut input);
     let before = s.content;
     let content = recordings::content_with(before, &input[..parts]);
-    let received = block::receive(s.receiver, s.none, &input[..parts]);
+    let mut failure = None;
+    let received = block::receive(rt, &mut failure, s.receiver, s.none, &input[..parts]);
     let receiver = received.receiver;
     if !received.written {
-        report::not_written();
+        report::not_written(rt, failure);
         return stopped(s);
     }
     if received.number > 0 {
-        report::refused(received.number);
+        report::refused(rt, received.number);
         return stopped(s);
     }
     let after = Sofar {
@@ -98,13 +104,13 @@ fn advance(s: Sofar) -> Sofar
         more: n == BLOCK,
     };
     if n < BLOCK {
-        conclude(after, n % SAMPLE > 0);
+        conclude(rt, after, n % SAMPLE > 0);
     }
     after
 }
 
 // Receives block after block, up to the end of the input.
-fn receive(r: Receiver)
+fn receive(rt: &(impl Print + Eprint), reader: &mut impl Read, r: Receiver)
     requires { Given r }
 {
     let mut sofar = Sofar {
@@ -115,27 +121,36 @@ fn receive(r: Receiver)
     };
     let mut left = BLOCKS;
     while left > 0 {
-        sofar = advance(sofar);
+        sofar = advance(rt, reader, sofar);
         if !sofar.more {
             return;
         }
         left -= 1;
     }
-    report::too_long();
+    report::too_long(rt);
 }
 
-fn main() {
-    if os::arg_count() > 1 {
-        report::arguments();
+// Whether the program was given arguments, beside its own name.
+fn has_arguments(rt: &impl Env) -> bool {
+    match rt.arg(1, &mut [0u8; 1]) {
+        Err(FillError::NotPresent) => false,
+        _ => true,
+    }
+}
+
+fn main(rt: HostRuntime) {
+    if has_arguments(&rt) {
+        report::arguments(&rt);
         return;
     }
+    let mut reader = rt.reader();
     let answer = receiver::set_up(
         CostasConstellation::Qpsk,
         recordings::timing_defaults(Ted::Gardner),
         recordings::carrier_defaults(),
     );
     match answer {
-        SetUp::Ready(r) => receive(r),
-        SetUp::Refused(n) => report::refused(n.number()),
+        SetUp::Ready(r) => receive(&rt, &mut reader, r),
+        SetUp::Refused(n) => report::refused(&rt, n.number()),
     }
 }

@@ -26,31 +26,38 @@ fn place(letter: u8) -> usize {
 }
 
 // Counts a line, and a run once more for the second receiver.
-pub(crate) fn count(tally: &mut [u64; 16], line: &[u8], letter: u8, agrees: bool, turned: bool)
+pub(crate) fn count(
+    rt: &impl Print,
+    tally: &mut [u64; 16],
+    line: &[u8],
+    letter: u8,
+    agrees: bool,
+    turned: bool,
+)
     ensures { Tallied 1 tally.old tally.new }
 {
-    tally::count_line(tally, place(letter), line, agrees);
+    tally::count_line(rt, tally, place(letter), line, agrees);
     if letter == b'r' {
-        tally::count_line(tally, TURNED, line, turned);
+        tally::count_line(rt, tally, TURNED, line, turned);
     }
 }
 
-fn show_calls(tally: &[u64; 16]) {
-    show_at(tally, 0, b"set_up");
-    show_at(tally, 1, b"reset");
-    show_at(tally, 2, b"set_phase");
-    show_at(tally, 3, b"run");
-    show_at(tally, TURNED, b"turned_run");
-    show_at(tally, 5, b"strobes");
-    show_at(tally, 6, b"output");
-    show_at(tally, 7, b"symbol_number");
+fn show_calls(rt: &impl Print, tally: &[u64; 16]) {
+    show_at(rt, tally, 0, b"set_up");
+    show_at(rt, tally, 1, b"reset");
+    show_at(rt, tally, 2, b"set_phase");
+    show_at(rt, tally, 3, b"run");
+    show_at(rt, tally, TURNED, b"turned_run");
+    show_at(rt, tally, 5, b"strobes");
+    show_at(rt, tally, 6, b"output");
+    show_at(rt, tally, 7, b"symbol_number");
 }
 
 // Writes the counts.
-pub(crate) fn show(tally: &[u64; 16], damaged: &[u64; 16]) {
-    show_calls(tally);
-    show_at(tally, 8, b"state");
-    show_at(tally, 9, b"reading");
-    show_at(tally, 10, b"conversion");
-    tally::show_end(tally, damaged);
+pub(crate) fn show(rt: &impl Print, tally: &[u64; 16], damaged: &[u64; 16]) {
+    show_calls(rt, tally);
+    show_at(rt, tally, 8, b"state");
+    show_at(rt, tally, 9, b"reading");
+    show_at(rt, tally, 10, b"conversion");
+    tally::show_end(rt, tally, damaged);
 }

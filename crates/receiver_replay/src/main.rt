@@ -34,6 +34,8 @@
 //   l  lock level, locked, constellation
 //   q  symbol count, instant, pace: the receiver's readings
 //   e  frequency, lock level, phase + 2^32 locked + 2^33 constellation: its other readings
+#![tactic(auto)]
+
 mod convert;
 mod counts;
 mod first;
@@ -48,13 +50,13 @@ ghost use Rattle.receiver.specs.Record.{Given};
 ghost use Rattle.replay.specs.Tally.{Tallied};
 
 use answers::Operation;
-use libc::STDIN_FILENO;
 use receiver::{Receiver, SetUp};
 use replay::{LINES, tally};
+use std::io::Read;
 use turned::{Turns, next_turns};
 
 // The receiver of the lines, the turned one beside it, and by how much that is turned.
-#[derive(Drop)]
+#[derive(Clone, Copy)]
 struct Pair {
     first: Receiver,
     second: Receiver,
@@ -63,6 +65,7 @@ struct Pair {
 
 // Plays an operation on both receivers, and counts it.
 fn play(
+    rt: &impl Print,
     pair: Pair,
     op: Operation,
     line: &[u8],
@@ -84,7 +87,7 @@ fn play(
     let mut turned = false;
     let r = pair.second;
     let second = second::play(first, r, op, turns, input, strobes, output, &mut turned);
-    counts::count(tally, line, op.letter, agrees, turned);
+    counts::count(rt, tally, line, op.letter, agrees, turned);
     Pair {
         first: first,
         second: second,
@@ -95,6 +98,7 @@ fn play(
 // Plays a damaged operation, or one with other turns, which must be counted as
 // differing. It has no other effect.
 fn play_damaged(
+    rt: &impl Print,
     pair: Pair,
     op: Operation,
     timing: &[u64; 5],
@@ -122,6 +126,7 @@ fn play_damaged(
     let mut strobes = *strobes;
     let mut output = *output;
     play(
+        rt,
         pair,
         op,
         b"",
@@ -136,6 +141,7 @@ fn play_damaged(
 
 // Plays a line, first damaged and then as it is.
 fn play_line(
+    rt: &impl Print,
     pair: Pair,
     line: &[u8],
     timing: &mut [u64; 5],
@@ -151,15 +157,23 @@ fn play_line(
     ensures tallied { Tallied 1 tally.old tally.new }
 {
     let op = answers::read_operation(line);
-    play_damaged(pair, op, timing, carrier, input, strobes, output, damaged);
+    play_damaged(
+        rt, pair, op, timing, carrier, input, strobes, output, damaged,
+    );
     play(
-        pair, op, line, timing, carrier, input, strobes, output, tally,
+        rt, pair, op, line, timing, carrier, input, strobes, output, tally,
     )
 }
 
 // Plays line after line, up to the end of the input, and says how many. What is left there after the last
 // whole line counts as a line too.
-fn play_lines(r: Receiver, tally: &mut [u64; 16], damaged: &mut [u64; 16]) -> u64
+fn play_lines(
+    rt: &impl Print,
+    reader: &mut impl Read,
+    r: Receiver,
+    tally: &mut [u64; 16],
+    damaged: &mut [u64; 16],
+) -> u64
     requires { Given r }
     ensures { Tallied result tally.old tally.new }
 {
@@ -176,11 +190,12 @@ fn play_lines(r: Receiver, tally: &mut [u64; 16], damaged: &mut [u64; 16]) -> u6
     let mut count = 0;
     while count < LINES {
         let mut line = [0u8; 53];
-        let n = io::read_full(STDIN_FILENO, &mut line);
+        let n = replay::read_full(reader, &mut line);
         if n == 0 {
             return count;
         }
         pair = play_line(
+            rt,
             pair,
             &line[..n],
             &mut timing,
@@ -197,14 +212,15 @@ fn play_lines(r: Receiver, tally: &mut [u64; 16], damaged: &mut [u64; 16]) -> u6
 }
 
 // Some receiver is there before the first line sets up its own.
-fn main() {
+fn main(rt: HostRuntime) {
+    let mut reader = rt.reader();
     let mut tally = [0; 16];
     let mut damaged = tally::of_damaged();
     let mut lines = 0;
     match set_up::some() {
-        SetUp::Ready(r) => lines = play_lines(r, &mut tally, &mut damaged),
+        SetUp::Ready(r) => lines = play_lines(&rt, &mut reader, r, &mut tally, &mut damaged),
         SetUp::Refused(_) => {}
     }
-    tally::too_long(&mut tally, lines);
-    counts::show(&tally, &damaged);
+    tally::too_long(&rt, &mut tally, lines);
+    counts::show(&rt, &tally, &damaged);
 }

@@ -10,7 +10,7 @@ const SAMPLES: usize = 96;
 const QUARTER: u64 = HIGH / 4;
 
 // Quarter turns: those of the second receiver's samples, and those that its phase is on.
-#[derive(Drop)]
+#[derive(Clone, Copy)]
 pub(crate) struct Turns {
     pub samples: u64,
     pub phase: u64,

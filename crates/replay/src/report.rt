@@ -1,39 +1,35 @@
-// Writing what was played. No contract can say what is written to a file.
-use libc::STDOUT_FILENO;
+// Writing what was played. No contract can say what is written to a file, and a write that fails is passed over.
+
+fn put(rt: &impl Print, bytes: &[u8]) {
+    let _ = rt.write_all(bytes);
+}
 
 // Writes a line with a name and how many lines were played under it.
-pub(crate) fn count(name: &[u8], n: u64) {
-    io::write_all(STDOUT_FILENO, name);
-    io::write_all(STDOUT_FILENO, b" ");
-    io::print_decimal(STDOUT_FILENO, n);
-    io::write_all(STDOUT_FILENO, b"\n");
+pub(crate) fn count(rt: &impl Print, name: &[u8], n: u64) {
+    put(rt, name);
+    let _ = println!(rt; " {n}");
 }
 
 // Writes the last line: how many answers there were, and how many of them differ.
-pub(crate) fn summary(answers: u64, differ: u64) {
-    io::print_decimal(STDOUT_FILENO, answers);
-    io::write_all(STDOUT_FILENO, b" answers, ");
-    io::print_decimal(STDOUT_FILENO, differ);
-    io::write_all(STDOUT_FILENO, b" differ\n");
+pub(crate) fn summary(rt: &impl Print, answers: u64, differ: u64) {
+    let _ = println!(rt; "{answers} answers, {differ} differ");
 }
 
 // Writes a recorded line whose answer is not the computed one. The line brings its line end.
-pub fn differs(line: &[u8], computed: u64) {
-    io::write_all(STDOUT_FILENO, b"computed ");
-    io::print_hex(STDOUT_FILENO, computed, 16);
-    io::write_all(STDOUT_FILENO, b" for ");
-    io::write_all(STDOUT_FILENO, line);
+pub fn differs(rt: &impl Print, line: &[u8], computed: u64) {
+    let _ = print!(rt; "computed {computed:016x} for ");
+    put(rt, line);
 }
 
 // Writes a recorded line that says something else than was computed.
-pub(crate) fn missed(line: &[u8]) {
-    io::write_all(STDOUT_FILENO, b"missed ");
-    io::write_all(STDOUT_FILENO, line);
+pub(crate) fn missed(rt: &impl Print, line: &[u8]) {
+    put(rt, b"missed ");
+    put(rt, line);
 }
 
 // Writes a line that is not an operation.
-pub fn malformed(line: &[u8]) {
-    io::write_all(STDOUT_FILENO, b"malformed: ");
-    io::write_all(STDOUT_FILENO, line);
-    io::write_all(STDOUT_FILENO, b"\n");
+pub fn malformed(rt: &impl Print, line: &[u8]) {
+    put(rt, b"malformed: ");
+    put(rt, line);
+    put(rt, b"\n");
 }

@@ -64,12 +64,12 @@ pub fn shows_more(tally: &[u64; 16]) -> bool
 }
 
 // Counts a line at its place, and writes it if it is one of the first that differ.
-pub fn count_line(tally: &mut [u64; 16], place: usize, line: &[u8], agrees: bool)
+pub fn count_line(rt: &impl Print, tally: &mut [u64; 16], place: usize, line: &[u8], agrees: bool)
     ensures tallied { Tallied 1 tally.old tally.new }
     ensures counted { tally.new ≡ counted tally.old place agrees }
 {
     if !agrees && shows_more(tally) {
-        missed(line);
+        missed(rt, line);
     }
     count(tally, place, agrees);
 }
@@ -82,28 +82,29 @@ pub fn played(tally: &[u64; 16]) -> u64
 }
 
 // Counts input that goes on after the last line that is read as one answer that differs.
-pub fn too_long(tally: &mut [u64; 16], lines: u64)
+pub fn too_long(rt: &impl Print, tally: &mut [u64; 16], lines: u64)
     ensures { tally.new ≡ ended tally.old lines }
 {
     if lines < LINES {
         return;
     }
-    malformed(b"the input is too long");
+    malformed(rt, b"the input is too long");
     add(tally, DIFFER);
 }
 
 // Writes the count at a place.
-pub fn show_at(tally: &[u64; 16], place: usize, name: &[u8]) {
-    report(name, tally[known(place)]);
+pub fn show_at(rt: &impl Print, tally: &[u64; 16], place: usize, name: &[u8]) {
+    report(rt, name, tally[known(place)]);
 }
 
 // Writes the last counts: malformed lines, damaged lines that were found to differ, all
 // answers and those that differ.
-pub fn show_end(tally: &[u64; 16], damaged: &[u64; 16]) {
-    show_at(tally, MALFORMED, b"malformed");
+pub fn show_end(rt: &impl Print, tally: &[u64; 16], damaged: &[u64; 16]) {
+    show_at(rt, tally, MALFORMED, b"malformed");
     report(
+        rt,
         b"damaged_seen",
         std::num::wrapping_sub_u64(damaged[DIFFER], SHOWN),
     );
-    summary(tally[ALL], tally[DIFFER]);
+    summary(rt, tally[ALL], tally[DIFFER]);
 }

@@ -1,5 +1,7 @@
 // What the programs that replay recorded calls of the loops share: the states of both loops as words, and
 // these and the answer of a timing run compared with recorded lines. Nothing here requires anything.
+#![tactic(auto)]
+
 mod answer;
 mod rows;
 mod words;

@@ -9,7 +9,7 @@ use answers::Operation;
 use timing::Ted;
 
 // The state, once a set-up was accepted.
-#[derive(Drop)]
+#[derive(Clone, Copy)]
 pub(crate) enum Slot {
     Empty,
     Real(real_sync::SymbolSyncState),
@@ -17,7 +17,7 @@ pub(crate) enum Slot {
 }
 
 // The six values of a set-up.
-#[derive(Drop)]
+#[derive(Clone, Copy)]
 struct SixValues {
     sps: f64,
     ted: Ted,

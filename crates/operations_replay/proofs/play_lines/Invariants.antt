@@ -1,0 +1,10 @@
+-- The loop of `operations_replay::play_lines`: so many lines are counted, and no more than may come.
+use Rattle.std.proofs.Common.{◌-◌, ◌^◌}
+use Rattle.replay.specs.Tally.{Tallied}
+use Rattle.operations_replay.proofs.play_lines.Given as goal
+
+abbrev pub invariant-loop-count : goal.invariant-loop-count
+invariant-loop-count g l = Tallied l.count l.fn.tally l.tally
+
+abbrev pub decreases-loop-count : goal.decreases-loop-count
+decreases-loop-count g l = 2 ^ 26 - l.count

@@ -1,0 +1,12 @@
+-- The loop of `receiver_replay::play_lines`: both receivers are given, so many lines are counted, and no more than may
+-- come.
+use Rattle.std.proofs.Common.{◌-◌, ◌^◌}
+use Rattle.receiver.specs.Record.{Given}
+use Rattle.replay.specs.Tally.{Tallied}
+use Rattle.receiver_replay.proofs.play_lines.Given as goal
+
+abbrev pub invariant-loop-count : goal.invariant-loop-count
+invariant-loop-count g l = record { given : Given l.pair.first × Given l.pair.second; tallied : Tallied l.count l.fn.tally l.tally }
+
+abbrev pub decreases-loop-count : goal.decreases-loop-count
+decreases-loop-count g l = 2 ^ 26 - l.count
