@@ -3,7 +3,7 @@ use crate::desk::Desk;
 use values::Refusal;
 
 // A command that is carried out: the desk after it, how many bytes it has, and how many bytes of symbols were written.
-#[derive(Drop)]
+#[derive(Clone, Copy)]
 pub struct Carried {
     pub desk: Desk,
     pub used: usize,
@@ -11,14 +11,14 @@ pub struct Carried {
 }
 
 // A command that is refused: why, and how many of its bytes were read.
-#[derive(Drop)]
+#[derive(Clone, Copy)]
 pub struct Stop {
     pub reason: Refusal,
     pub read: usize,
 }
 
 // What comes of the bytes of a command that were read so far.
-#[derive(Drop)]
+#[derive(Clone, Copy)]
 pub enum Step {
     // Its next field wants so many bytes more.
     Wants(usize),

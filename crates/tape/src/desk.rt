@@ -10,7 +10,7 @@ use complex_sync::SymbolSyncState;
 use receiver::Receiver;
 
 // What the commands so far have left.
-#[derive(Drop)]
+#[derive(Clone, Copy)]
 pub enum Desk {
     // No loop is set up.
     Empty,

@@ -85,7 +85,7 @@ fn timing_step(desk: Desk, bytes: &[u8]) -> Step
 }
 
 // The receiver after a call, and how many bytes of symbols were written.
-#[derive(Drop)]
+#[derive(Clone, Copy)]
 struct Sent {
     receiver: Receiver,
     written: usize,

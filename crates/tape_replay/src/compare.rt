@@ -29,7 +29,7 @@ fn agrees(frame: Frame, bytes: &[u8], ending: Ending, output: &[u8]) -> bool
 }
 
 // Whether it did so each of two times.
-#[derive(Drop)]
+#[derive(Clone, Copy)]
 struct Agreement {
     at_once: bool,
     by_field: bool,
@@ -63,6 +63,7 @@ fn either(a: bool, b: bool) -> bool {
 
 // Counts a frame, which must agree both times.
 pub(crate) fn judge(
+    rt: &impl Print,
     frame: Frame,
     bytes: &[u8],
     twice: Twice,
@@ -79,7 +80,7 @@ pub(crate) fn judge(
 {
     let agreement = agree_twice(frame, bytes, twice, first, second);
     let agrees = both(agreement.at_once, agreement.by_field);
-    counts::report(tally, index, agrees);
+    counts::report(rt, tally, index, agrees);
     counts::count(tally, frame.ending.number, agrees);
 }
 

@@ -5,7 +5,6 @@ ghost use Rattle.tape_replay.specs.Compare.{number_place};
 
 use crate::frame::Frame;
 use crate::play::Twice;
-use libc::STDOUT_FILENO;
 use replay::tally;
 use replay::tally::show_at;
 use std::num::wrapping_add_u64;
@@ -15,7 +14,7 @@ const NUMBERS: u64 = 12;
 
 // The sums over the frames: how many there were, the bytes of their tapes and outputs, and the calls that the tapes
 // took, handed at once and field by field.
-#[derive(Drop)]
+#[derive(Clone, Copy)]
 pub(crate) struct Sums {
     pub frames: u64,
     pub tape: u64,
@@ -84,54 +83,52 @@ pub(crate) fn count(tally: &mut [u64; 16], number: u64, agrees: bool)
 }
 
 // Counts a malformed frame, which differs, and writes it if it is one of the first.
-pub(crate) fn malformed(tally: &mut [u64; 16], index: u64)
+pub(crate) fn malformed(rt: &impl Print, tally: &mut [u64; 16], index: u64)
     ensures { Tallied 1 tally.old tally.new }
 {
-    report(tally, index, false);
+    report(rt, tally, index, false);
     tally::count(tally, tally::MALFORMED, false);
 }
 
-// ---- What is written. No contract can say what that is.
-fn write(text: &[u8]) {
-    io::write_all(STDOUT_FILENO, text);
+// ---- What is written. No contract can say what that is. A write that fails is passed over.
+fn write(rt: &impl Print, text: &[u8]) {
+    let _ = rt.write_all(text);
 }
 
-fn line(name: &[u8], n: u64) {
-    write(name);
-    write(b" ");
-    io::print_decimal(STDOUT_FILENO, n);
-    write(b"\n");
+fn line(rt: &impl Print, name: &[u8], n: u64) {
+    write(rt, name);
+    let _ = println!(rt; " {n}");
 }
 
 // Writes which frame differs, if it does and is one of the first.
-pub(crate) fn report(tally: &[u64; 16], index: u64, agrees: bool) {
+pub(crate) fn report(rt: &impl Print, tally: &[u64; 16], index: u64, agrees: bool) {
     if !agrees && tally::shows_more(tally) {
-        line(b"missed frame", index);
+        line(rt, b"missed frame", index);
     }
 }
 
-fn show_numbers(tally: &[u64; 16]) {
-    show_at(tally, 0, b"number_0");
-    show_at(tally, 1, b"number_1");
-    show_at(tally, 2, b"number_2");
-    show_at(tally, 3, b"number_3");
-    show_at(tally, 4, b"number_4");
-    show_at(tally, 5, b"number_5");
-    show_at(tally, 6, b"number_6");
-    show_at(tally, 7, b"number_7");
-    show_at(tally, 8, b"number_8");
-    show_at(tally, 9, b"number_9");
-    show_at(tally, 10, b"number_10");
-    show_at(tally, 11, b"number_11");
+fn show_numbers(rt: &impl Print, tally: &[u64; 16]) {
+    show_at(rt, tally, 0, b"number_0");
+    show_at(rt, tally, 1, b"number_1");
+    show_at(rt, tally, 2, b"number_2");
+    show_at(rt, tally, 3, b"number_3");
+    show_at(rt, tally, 4, b"number_4");
+    show_at(rt, tally, 5, b"number_5");
+    show_at(rt, tally, 6, b"number_6");
+    show_at(rt, tally, 7, b"number_7");
+    show_at(rt, tally, 8, b"number_8");
+    show_at(rt, tally, 9, b"number_9");
+    show_at(rt, tally, 10, b"number_10");
+    show_at(rt, tally, 11, b"number_11");
 }
 
 // Writes the counts.
-pub(crate) fn show(sums: Sums, tally: &[u64; 16], damaged: &[u64; 16]) {
-    line(b"frames", sums.frames);
-    line(b"tape_bytes", sums.tape);
-    line(b"output_bytes", sums.output);
-    line(b"calls_at_once", sums.at_once);
-    line(b"calls_by_field", sums.by_field);
-    show_numbers(tally);
-    tally::show_end(tally, damaged);
+pub(crate) fn show(rt: &impl Print, sums: Sums, tally: &[u64; 16], damaged: &[u64; 16]) {
+    line(rt, b"frames", sums.frames);
+    line(rt, b"tape_bytes", sums.tape);
+    line(rt, b"output_bytes", sums.output);
+    line(rt, b"calls_at_once", sums.at_once);
+    line(rt, b"calls_by_field", sums.by_field);
+    show_numbers(rt, tally);
+    tally::show_end(rt, tally, damaged);
 }

@@ -20,7 +20,7 @@ const LENGTH: usize = 12;
 pub(crate) const WORDS: usize = 16;
 
 // How a tape ends: its number, 0 where nothing is refused; its stopping place; and how many bytes of output it gave.
-#[derive(Drop)]
+#[derive(Clone, Copy)]
 pub(crate) struct Ending {
     pub number: u64,
     pub place: u64,
@@ -28,13 +28,13 @@ pub(crate) struct Ending {
 }
 
 // How long the tape is, and how it ends.
-#[derive(Drop)]
+#[derive(Clone, Copy)]
 pub(crate) struct Frame {
     pub tape: usize,
     pub ending: Ending,
 }
 
-#[derive(Drop)]
+#[derive(Clone, Copy)]
 pub(crate) enum Reading {
     Whole(Frame),
     Malformed,

@@ -14,6 +14,8 @@
 // Each tape is played twice: once all that is left of it is handed at each call, and once a command's bytes so far, as
 // many more as the last call wanted. Then what was recorded is altered in one place, and must be seen to differ from
 // both. A frame that is cut off or too long counts as one that differs, and is the last one.
+#![tactic(auto)]
+
 mod compare;
 mod counts;
 mod damage;
@@ -29,6 +31,7 @@ ghost use Rattle.tape_replay.specs.Window.{Inside};
 use counts::Sums;
 use frame::{Frame, Reading, WORD};
 use replay::{LINES, tally};
+use std::io::Read;
 use window::Window;
 
 // How many bytes are read ahead at most. The longest frame has a fourth of them, and a little more.
@@ -40,6 +43,7 @@ const OUTPUT: usize = 0x1_4000;
 
 // Plays the frame at the front of the bytes, and counts it.
 fn play_frame(
+    rt: &impl Print,
     frame: Frame,
     bytes: &mut [u8],
     first: &mut [u8],
@@ -55,7 +59,7 @@ fn play_frame(
 {
     let end = WORD + frame.tape;
     let twice = play::play_twice(&bytes[WORD..end], first, second);
-    compare::judge(frame, bytes, twice, first, second, sums.frames, tally);
+    compare::judge(rt, frame, bytes, twice, first, second, sums.frames, tally);
     let wrong = damage::alter(frame, bytes, sums.frames);
     compare::judge_damaged(wrong, bytes, twice, first, second, damaged);
     counts::with_frame(sums, frame, twice)
@@ -63,6 +67,7 @@ fn play_frame(
 
 // Plays what was read at the front of the bytes, and counts it.
 fn play_reading(
+    rt: &impl Print,
     reading: Reading,
     bytes: &mut [u8],
     first: &mut [u8],
@@ -77,16 +82,16 @@ fn play_reading(
     ensures tallied { Tallied 1 tally.old tally.new }
 {
     match reading {
-        Reading::Whole(frame) => play_frame(frame, bytes, first, second, sums, tally, damaged),
+        Reading::Whole(frame) => play_frame(rt, frame, bytes, first, second, sums, tally, damaged),
         Reading::Malformed => {
-            counts::malformed(tally, sums.frames);
+            counts::malformed(rt, tally, sums.frames);
             counts::with_malformed(sums)
         }
     }
 }
 
 // What is left of the buffer behind a frame, and the sums with it.
-#[derive(Drop)]
+#[derive(Clone, Copy)]
 struct Next {
     window: Window,
     sums: Sums,
@@ -94,6 +99,7 @@ struct Next {
 
 // Reads and plays the frame at the front of the window.
 fn play_next(
+    rt: &impl Print,
     w: Window,
     sums: Sums,
     buffer: &mut [u8],
@@ -113,6 +119,7 @@ fn play_next(
     let reading = frame::read_frame(&buffer[from..to]);
     let left = window::behind(w, reading);
     let more = play_reading(
+        rt,
         reading,
         &mut buffer[from..to],
         first,
@@ -129,6 +136,8 @@ fn play_next(
 
 // Plays frame after frame, up to the end of the input. The buffer is read into; the tapes write into the other two.
 fn play_frames(
+    rt: &impl Print,
+    reader: &mut impl Read,
     buffer: &mut [u8],
     first: &mut [u8],
     second: &mut [u8],
@@ -140,30 +149,33 @@ fn play_frames(
     let mut w = window::start();
     let mut sums = counts::nothing();
     while sums.frames < LINES {
-        w = window::refill(buffer, w);
+        w = window::refill(reader, buffer, w);
         if w.from == w.to {
             return sums;
         }
-        let next = play_next(w, sums, buffer, first, second, tally, damaged);
+        let next = play_next(rt, w, sums, buffer, first, second, tally, damaged);
         w = next.window;
         sums = next.sums;
     }
     sums
 }
 
-fn main() {
+fn main(rt: HostRuntime) {
+    let mut reader = rt.reader();
     let mut buffer = [0u8; BUFFER];
     let mut first = [0u8; OUTPUT];
     let mut second = [0u8; OUTPUT];
     let mut tally = [0; 16];
     let mut damaged = tally::of_damaged();
     let sums = play_frames(
+        &rt,
+        &mut reader,
         &mut buffer,
         &mut first,
         &mut second,
         &mut tally,
         &mut damaged,
     );
-    tally::too_long(&mut tally, sums.frames);
-    counts::show(sums, &tally, &damaged);
+    tally::too_long(&rt, &mut tally, sums.frames);
+    counts::show(&rt, sums, &tally, &damaged);
 }

@@ -19,7 +19,7 @@ const ENDLESS: u64 = 0xffff_ffff_ffff_ffff;
 const CUT: u64 = 10;
 
 // What a call is handed: all that is left of the tape, or the bytes of the command that were asked for so far.
-#[derive(Drop)]
+#[derive(Clone, Copy)]
 enum Handing {
     AtOnce,
     ByField,
@@ -27,7 +27,7 @@ enum Handing {
 
 // How far a tape is played: the desk, where the command begins, how many of its bytes are handed, and how many bytes
 // of symbols are written.
-#[derive(Drop)]
+#[derive(Clone, Copy)]
 pub(crate) struct Playing {
     pub desk: Desk,
     pub at: usize,
@@ -35,14 +35,14 @@ pub(crate) struct Playing {
     pub written: usize,
 }
 
-#[derive(Drop)]
+#[derive(Clone, Copy)]
 pub(crate) enum Turn {
     On(Playing),
     Over(Ending),
 }
 
 // How a tape ended, and how many calls it took.
-#[derive(Drop)]
+#[derive(Clone, Copy)]
 pub(crate) struct Played {
     pub ending: Ending,
     pub calls: u64,
@@ -162,7 +162,7 @@ fn play(tape: &[u8], handing: Handing, output: &mut [u8]) -> Played
 }
 
 // A tape that is played twice: handed at once and handed field by field.
-#[derive(Drop)]
+#[derive(Clone, Copy)]
 pub(crate) struct Twice {
     pub at_once: Played,
     pub by_field: Played,

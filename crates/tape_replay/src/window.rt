@@ -4,13 +4,13 @@ ghost use Rattle.tape_replay.specs.Frame.{FrameFits, Fits};
 ghost use Rattle.tape_replay.specs.Window.{Inside};
 
 use crate::frame::{Frame, Reading, WORDS};
-use libc::STDIN_FILENO;
+use std::io::Read;
 
 // How many bytes the longest frame has.
 const LONGEST: usize = 0x2_0010;
 
 // Where that part begins and ends, and whether the input has ended behind it.
-#[derive(Drop)]
+#[derive(Clone, Copy)]
 pub(crate) struct Window {
     pub from: usize,
     pub to: usize,
@@ -70,7 +70,7 @@ pub(crate) fn behind(w: Window, reading: Reading) -> Window
 }
 
 // Reads ahead, unless a whole frame is there or the input has ended.
-pub(crate) fn refill(buffer: &mut [u8], w: Window) -> Window
+pub(crate) fn refill(reader: &mut impl Read, buffer: &mut [u8], w: Window) -> Window
     requires { Inside w (length buffer.old) }
     ensures { Inside result (length buffer.old) }
 {
@@ -84,7 +84,7 @@ pub(crate) fn refill(buffer: &mut [u8], w: Window) -> Window
         return w;
     }
     move_down(buffer, from, to);
-    let n = io::read_full(STDIN_FILENO, &mut buffer[kept..]);
+    let n = replay::read_full(reader, &mut buffer[kept..]);
     Window {
         from: 0,
         to: kept + n,

@@ -7,7 +7,7 @@ use native.Mathlib.Omega.{arith}
 use borrow.Author.Tests.{lt-ltb, le-ltb, ltb-true, ltb-false, eqb-true, eqb-false}
 use lib.Dec.{ltb, eqb}
 use lib.ListN.{length}
-use Rattle.tape.specs.Reading.{byte_at, count_of, samples_end, Reading, unfinished, carrier, timing, announced, samples, carrier_read, timing_read, samples_behind, samples_read, reading_of}
+use Rattle.tape.specs.Reading.{byte_at, count_of, samples_end, Reading, unfinished, announced, carrier_read, timing_read, samples_behind, samples_read, reading_of}
 use Rattle.tape.specs.Reads.{Reads, nothing, no-command, is-reset, no-constellation, other-constellation, in-carrier, is-carrier, no-detector, other-detector, in-timing, is-timing, in_count, large-count, in-samples, is-samples}
 use Rattle.tape.proofs.Laws.Steps as steps
 

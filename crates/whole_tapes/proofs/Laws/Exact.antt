@@ -68,10 +68,10 @@ Exact l (done d used xs) = used ≡ length l
 Exact l (refused r read) = read ≡ length l
 
 -- nothing is decided behind all bytes but one, nor past the last
-exact-between : (l : List ℕ) (m : ℕ) (s : Stepped) → length l ≡ m + 1 → Past m s → Front (length l) s s → Exact l s
-exact-between l m (wants k) e p f = tt
-exact-between l m (refused why read) e p (same-refusal h) = omega arith
-exact-between l m (done d used xs) e p (same-command h) = omega arith
+exact-between : (l : List ℕ) (m : ℕ) (s t : Stepped) → length l ≡ m + 1 → Past m s → Front (length l) s t → t ≡ s → Exact l s
+exact-between l m s t e p (same-refusal h) q = omega arith
+exact-between l m s t e p (same-command h) q = omega arith
+exact-between l m s t e p (wants-more past) q = subst (Exact l) q tt
 
 -- what comes of all bytes, where those of the front want more
 past-front : (m : ℕ) (s t : Stepped) {j : ℕ} → Front m s t → t ≡ wants j → Past m s
@@ -110,4 +110,4 @@ module _ (l : List ℕ) (m k : ℕ) (front : m ≤ length l) (few : length l ≤
           let w = but-wants h in
           let f : Front (length but) (stepped d l) (stepped d but) = subst (λ (x : List ℕ). Front (length but) (stepped d x) (stepped d but)) (take-append-drop (length l - 1) l) (step-front d but (drop (length l - 1) l)) in
           let g : Front (length l) (stepped d l) (stepped d l) = subst (λ (x : List ℕ). Front (length l) (stepped d x) (stepped d l)) (append-nil l) (step-front d l []) in
-          exact-between l (length but) (stepped d l) (let n = but-long in omega arith) (past-front (length but) (stepped d l) (stepped d but) f w.1) g
+          exact-between l (length but) (stepped d l) (stepped d l) (let n = but-long in omega arith) (past-front (length but) (stepped d l) (stepped d but) f w.1) g refl

@@ -119,6 +119,7 @@ UpToSix [] = T true
 UpToSix (r ∷ l) = T (leb (number_of r.reason) 6) × UpToSix l
 
 first-up-to-six : {n : ℕ} (rows : List Row) → UpToSix rows → First n rows → n ≤ 6
+first-up-to-six {n = n} [] u f = elim f [ ]
 first-up-to-six (r ∷ l) u (row.here q e) = omega (arith, leb→le (number_of r.reason) 6 u.0)
 first-up-to-six (r ∷ l) u (row.later q f) = first-up-to-six l u.1 f
 
