@@ -16,7 +16,7 @@ if [ -d "$here/../target" ]; then
 fi
 cd "$copy"
 git apply "$here/closed_narrowing.patch"
-if ! rt staticlib train_receiver >proved.txt 2>&1; then
+if ! make library >proved.txt 2>&1; then
     cat proved.txt
     exit 1
 fi

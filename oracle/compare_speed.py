@@ -3,8 +3,8 @@
 
     python3 compare_speed.py EARLIER [TURNS [own]]     as: ../../earlier 12
 
-EARLIER is the root of another checkout of this repository. In both checkouts `rt staticlib
-train_receiver` must have been run. The benchmark of this one is built with each library (and that
+EARLIER is the root of another checkout of this repository. In both checkouts `make
+library` must have been run. The benchmark of this one is built with each library (and that
 checkout's bindings/rust) and run TURNS times, in the order earlier, later, later, earlier, and so
 on, so that a slow drift of the machine's pace meets both alike. Nothing else should run beside it.
 With `own` each library is measured by its own checkout's benchmark: for a landing that moves a record.
@@ -37,7 +37,7 @@ def built(root, oracle, folder):
     """A benchmark, with the library of a checkout in it."""
     library = root / "target" / "staticlib"
     if not (library / "libtrain_receiver.a").exists():
-        sys.exit(f"{library} has no library: run `rt staticlib train_receiver` in {root}")
+        sys.exit(f"{library} has no library: run `make library` in {root}")
     ignore = shutil.ignore_patterns("target")
     shutil.copytree(oracle, folder / "oracle", ignore=ignore)
     shutil.copytree(root / "bindings", folder / "bindings", ignore=ignore)

@@ -1,7 +1,7 @@
 /*
  * The train report receiver for C and C++: symbol timing recovery and carrier recovery.
  *
- * These are the declarations of libtrain_receiver.a, which `rt staticlib train_receiver` writes. The
+ * These are the declarations of libtrain_receiver.a, which `make library` writes. The
  * contract of each function stands in crates/train_receiver/src. Labels such as (T8) are those of
  * docs/SPECIFICATION.md, which states the whole behaviour.
  *
@@ -40,7 +40,7 @@
  *   upper half of the count is, the earlier ones have four bytes of padding, with any content. So no linker
  *   and no size of a file tells them apart:
  *   - Header and library must be of one version, in both directions. Compile every program anew, and write
- *     the library anew too (`rt staticlib train_receiver`). With the earlier header a program sees the lower
+ *     the library anew too (`make library`). With the earlier header a program sees the lower
  *     half of the count; with this header and an earlier library the upper half of the count is rubbish.
  *   - Do not read an earlier record's bytes into a trr_receiver, nor give a trr_receiver's bytes to an earlier
  *     program, which would see the lower half of the count. Convert.

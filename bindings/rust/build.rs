@@ -1,4 +1,4 @@
-//! Links the static library, which `rt staticlib train_receiver` writes.
+//! Links the static library, which `make library` writes.
 
 use std::env;
 use std::path::PathBuf;
@@ -18,7 +18,7 @@ fn main() {
     println!("cargo::rerun-if-changed={}", library.display());
     if !library.is_file() {
         println!(
-            "cargo::error=there is no {LIBRARY} in {}: `rt staticlib train_receiver`, run at the \
+            "cargo::error=there is no {LIBRARY} in {}: `make library`, run at the \
              repository's top, writes it to target/staticlib; TRAIN_RECEIVER_LIB names another folder",
             folder.display()
         );

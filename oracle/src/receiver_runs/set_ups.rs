@@ -45,7 +45,7 @@ pub fn both<K: Kernel>(recorder: &mut Recorder<K>, random: &mut Random) {
 }
 
 /// The first of the list that has each number, 0 too.
-fn one_of_each<V: Copy>(list: Vec<V>, number: impl Fn(&V) -> u64) -> Vec<V> {
+pub fn one_of_each<V: Copy>(list: Vec<V>, number: impl Fn(&V) -> u64) -> Vec<V> {
     let first = |wanted: u64| list.iter().copied().find(|values| number(values) == wanted);
     (0..=6).filter_map(first).collect()
 }
