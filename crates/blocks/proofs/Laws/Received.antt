@@ -58,6 +58,9 @@ pub received-instants : (r : Receiver) (l : List C32) (n : ℕ) → length (rece
 received-instants r l n = instants-count complex (sync r.timing) l n
 
 -- ---- two in a row are one, where there are m places in all
+joined-consumed : (q h : Heard) → (joined q h).consumed ≡ q.consumed + h.consumed
+joined-consumed q h = refl
+
 pub received-joined : (r : Receiver) → Given r → (xs ys : List C32) (n m : ℕ) → n ≤ m → let q = received r xs n in joined q (received q.receiver (drop q.consumed xs ++ ys) (m - q.produced)) ≡ received r (xs ++ ys) m
 received-joined r given xs ys n m fewer =
     let s = sync r.timing in
@@ -70,11 +73,12 @@ received-joined r given xs ys n m fewer =
     let is = instants-together complex s xs ys n m fewer given.timing in
     let count = sym (length-append q.values p.values) in
     let symbols = count-twice r.count (length q.values) (length p.values) ∙ ap (count_after r.count) count in
+    let both-taken = joined-consumed (received r xs n) (received (received r xs n).receiver (drop q.taken xs ++ ys) (m - length q.values)) in
     (λ j. record {
       strobes = q.values ++ p.values;
       outputs = u.values ++ v.values;
       instants = sym is j;
-      consumed = q.taken + p.taken;
+      consumed = both-taken j;
       produced = count j;
       receiver = record { timing = state_of p.state; carrier = record { constellation = r.carrier.constellation; params = r.carrier.params; track = v.last }; count = symbols j };
     })
