@@ -61,6 +61,9 @@ received-instants r l n = instants-count complex (sync r.timing) l n
 joined-consumed : (q h : Heard) → (joined q h).consumed ≡ q.consumed + h.consumed
 joined-consumed q h = refl
 
+joined-instants : (q h : Heard) → (joined q h).instants ≡ q.instants ++ map (later q.consumed) h.instants
+joined-instants q h = refl
+
 pub received-joined : (r : Receiver) → Given r → (xs ys : List C32) (n m : ℕ) → n ≤ m → let q = received r xs n in joined q (received q.receiver (drop q.consumed xs ++ ys) (m - q.produced)) ≡ received r (xs ++ ys) m
 received-joined r given xs ys n m fewer =
     let s = sync r.timing in
@@ -73,11 +76,14 @@ received-joined r given xs ys n m fewer =
     let is = instants-together complex s xs ys n m fewer given.timing in
     let count = sym (length-append q.values p.values) in
     let symbols = count-twice r.count (length q.values) (length p.values) ∙ ap (count_after r.count) count in
-    let both-taken = joined-consumed (received r xs n) (received (received r xs n).receiver (drop q.taken xs ++ ys) (m - length q.values)) in
+    let first = received r xs n in
+    let second = received first.receiver (drop q.taken xs ++ ys) (m - length q.values) in
+    let both-taken = joined-consumed first second in
+    let one-after-another = joined-instants first second ∙ sym is in
     (λ j. record {
       strobes = q.values ++ p.values;
       outputs = u.values ++ v.values;
-      instants = sym is j;
+      instants = one-after-another j;
       consumed = both-taken j;
       produced = count j;
       receiver = record { timing = state_of p.state; carrier = record { constellation = r.carrier.constellation; params = r.carrier.params; track = v.last }; count = symbols j };
