@@ -19,13 +19,12 @@ from pathlib import Path
 ROOT = Path(__file__).resolve().parent.parent
 # the program, its file, the comparison, what stands in its place, and what is no longer looked at
 BLIND = [
-    ("timing_replay", "main.rt", "line, agrees);", "line, true);", "every line"),
-    ("operations_replay", "judge.rt", "answers::same_f32(computed.c, single(answer / HIGH))",
-     "answers::same_f32(computed.c, computed.c)", "the cosine of a pair"),
-    ("receiver_replay", "second.rt", "both(lent, turned::records_turned", "both(true, turned::records_turned",
-     "the buffers of a turned run"),
-    ("receiver_replay", "second.rt", "both(lent, turned::records_turned(first, after, turns.phase))",
-     "both(lent, true)", "the record after a turned run"),
+    ("timing_replay", "calls.rt", "line, agrees);", "line, true);", "every line"),
+    ("operations_replay", "judge.rt", "answers::same(computed.c, answers::high(answer))",
+     "answers::same(computed.c, computed.c)", "the cosine of a pair"),
+    ("receiver_replay", "second.rt", "lent && records_turned", "records_turned", "the buffers of a turned run"),
+    ("receiver_replay", "second.rt", "records_turned(first.r, self.r, turns.phase)", "true",
+     "the record after a turned run"),
     ("receiver_replay", "first.rt", "receiver::locked(r) == (flags % 2 == 1)", "true", "the lock reading"),
     ("receiver_replay", "first.rt", "plain::constellation_code(receiver::constellation(r)) as u64 == flags / 2", "true",
      "the constellation reading"),
@@ -34,13 +33,13 @@ BLIND = [
     ("library_replay", "convert.rt", "narrowed.number as u64", "op.answer", "the number of a conversion"),
     ("library_replay", "run.rt", "counts.consumed as u64 == op.y % 0x1_0000_0000", "true", "what a call consumed"),
     ("library_replay", "readings.rt", "c.locked == (flags % 2 == 1)", "true", "the library's lock reading"),
-    ("tape_replay", "compare.rt", "ending.number != frame.ending.number", "ending.number != ending.number",
+    ("tape_replay", "compare.rt", "ending.number == recorded.number", "ending.number == ending.number",
      "the number of a tape"),
-    ("tape_replay", "compare.rt", "same_bytes(&output[..written], &bytes[from..to])", "written == to - from",
-     "the bytes of a tape's output"),
-    ("tape_replay", "compare.rt", "by_field: agrees(frame, bytes, by_field.ending, second)", "by_field: true",
+    ("tape_replay", "compare.rt", "played.output[..ending.output] == self.bytes[from..to]",
+     "ending.output == to - from", "the bytes of a tape's output"),
+    ("tape_replay", "compare.rt", "|| self.agrees(&twice.by_field)", "|| true",
      "how a tape ends that is handed field by field"),
-    ("tape_replay", "play.rt", "play(tape, Handing::ByField, second)", "play(tape, Handing::AtOnce, second)",
+    ("tape_replay", "play.rt", "self.by_field.play(tape, |_| 0)", "self.by_field.play(tape, |left| left)",
      "fields, since all is handed at once"),
 ]
 

@@ -1,4 +1,5 @@
 -- The laws of this crate's definitions and tests.
 pub mod Alike
-pub mod Slices
 pub mod Spelling
+pub mod Slices
+pub mod Line

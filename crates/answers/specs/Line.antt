@@ -1,11 +1,11 @@
 -- A recorded line: a letter and three words, each after a space, and a line end. Definitions only.
-use Rattle.std.specs.Prelude.{ℕ, Bool, cond, ◌&&◌, List, length, take, drop, ◌==◌, slice_index}
-use Rattle.answers.specs.declared.hex.Word.{Word}
-use Rattle.answers.specs.declared.hex.Word.TheVariants.{Value, Broken}
+use Rattle.std.specs.Prelude.{ℕ, Bool, cond, ◌&&◌, List, length, take, drop, ◌==◌, slice_index, Option, Some, None}
+use Rattle.answers.specs.Hex.{Word, word_of}
 use Rattle.answers.specs.declared.line.Operation.{Operation}
-use Rattle.answers.specs.declared.line.Reading.{Reading}
-use Rattle.answers.specs.declared.line.Reading.TheVariants.{Asks, Malformed}
-use Rattle.answers.specs.Hex.{word_of}
+
+-- what a line asks, or none where it is malformed
+abbrev pub Reading : Type 0
+Reading = Option Operation
 
 -- the word that starts at a place
 abbrev pub word_at : List ℕ → ℕ → Word
@@ -20,18 +20,18 @@ abbrev pub formed : List ℕ → Bool
 formed l = length l == 53 && spaced (slice_index l 1) (slice_index l 18) (slice_index l 35) (slice_index l 52)
 
 abbrev pub asking : ℕ → Word → Word → Word → Reading
-asking c (Value x) (Value y) (Value z) = Asks (record { letter = c; x = x; y = y; answer = z })
-asking c (Value x) (Value y) Broken = Malformed
-asking c (Value x) Broken w = Malformed
-asking c Broken v w = Malformed
+asking c (Some x) (Some y) (Some z) = Some (record { letter = c; x = x; y = y; answer = z })
+asking c (Some x) (Some y) None = None
+asking c (Some x) None w = None
+asking c None v w = None
 
 unfoldable pub reading_of : List ℕ → Reading
-reading_of l = cond (formed l) (asking (slice_index l 0) (word_at l 2) (word_at l 19) (word_at l 36)) Malformed
+reading_of l = cond (formed l) (asking (slice_index l 0) (word_at l 2) (word_at l 19) (word_at l 36)) None
 
 -- no letter for a malformed line
 abbrev pub asked : Reading → Operation
-asked (Asks op) = op
-asked Malformed = record { letter = 0; x = 0; y = 0; answer = 0 }
+asked (Some op) = op
+asked None = record { letter = 0; x = 0; y = 0; answer = 0 }
 
 -- whether a line has these three words
 abbrev pub has : Operation → ℕ → ℕ → ℕ → Bool

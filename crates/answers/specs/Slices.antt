@@ -1,13 +1,11 @@
 -- When two lists are equally long and agree at every place. Definitions only.
-use Rattle.std.specs.Prelude.{ℕ, Bool, true, false, ◌&&◌, List, [], ◌∷◌, ◌==◌, to_bits, Float}
+use Rattle.std.specs.Prelude.{ℕ, Bool, List, ◌==◌, to_bits, Float}
 use Rattle.std.specs.Float.{binary32}
+use Rattle.std.specs.Cmp.Lexicographic.{pointwise}
 
 -- by the number that each element has
-unfoldable pub same_by : {A : Type 0} → (A → ℕ) → List A → List A → Bool
-same_by f [] [] = true
-same_by f [] (y ∷ ys) = false
-same_by f (x ∷ xs) [] = false
-same_by f (x ∷ xs) (y ∷ ys) = f x == f y && same_by f xs ys
+abbrev pub same_by : {A : Type 0} → (A → ℕ) → List A → List A → Bool
+same_by f a b = pointwise (λ x y. f x == f y) a b
 
 -- bit for bit
 abbrev pub same_floats : List Float → List Float → Bool

@@ -5,7 +5,7 @@ ghost use Rattle.std.specs.Float.{binary32, binary64};
 ghost use Rattle.answers.specs.Line.{has};
 
 use crate::line::Operation;
-use patterns::{f32_bits, f32_of, f64_bits};
+use patterns::{bits_of, of_bits};
 
 // One in the high half of a word.
 pub const HIGH: u64 = 0x1_0000_0000;
@@ -14,22 +14,22 @@ pub const HIGH: u64 = 0x1_0000_0000;
 pub fn high(word: u64) -> f32
     ensures { result ≡ from_bits binary32 (word / 2 ^ 32) }
 {
-    f32_of((word / HIGH) as u32)
+    of_bits((word / HIGH) as u32)
 }
 
 // The low half.
 pub fn low(word: u64) -> f32
     ensures { result ≡ from_bits binary32 (word % 2 ^ 32) }
 {
-    f32_of((word % HIGH) as u32)
+    of_bits((word % HIGH) as u32)
 }
 
 // The word of two f32.
 pub fn word(a: f32, b: f32) -> u64
     ensures { result ≡ to_bits binary32 a * 2 ^ 32 + to_bits binary32 b }
 {
-    let high = f32_bits(a) as u64;
-    let low = f32_bits(b) as u64;
+    let high = bits_of(a) as u64;
+    let low = bits_of(b) as u64;
     high * HIGH + low
 }
 
@@ -37,18 +37,12 @@ pub fn word(a: f32, b: f32) -> u64
 pub fn words_agree(x: u64, y: u64, z: u64, op: Operation) -> bool
     ensures { result ≡ has op x y z }
 {
-    if x != op.x {
-        return false;
-    }
-    if y != op.y {
-        return false;
-    }
-    z == op.answer
+    x == op.x && y == op.y && z == op.answer
 }
 
 // Whether it has these three f64.
 pub fn floats_agree(x: f64, y: f64, z: f64, op: Operation) -> bool
     ensures { result ≡ has op (to_bits binary64 x) (to_bits binary64 y) (to_bits binary64 z) }
 {
-    words_agree(f64_bits(x), f64_bits(y), f64_bits(z), op)
+    words_agree(bits_of(x), bits_of(y), bits_of(z), op)
 }

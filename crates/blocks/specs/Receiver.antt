@@ -4,7 +4,6 @@ use Rattle.std.specs.Prelude.{◌≡◌, ℕ, suc, ◌+◌, ◌*◌, ◌/◌, �
 use Rattle.values.specs.declared.sample.C32.{C32}
 use Rattle.values.specs.Samples.{samples}
 use Rattle.timing.specs.Sample.{complex}
-use Rattle.complex_sync.specs.Views.{sync}
 use Rattle.receiver.specs.Record.{Receiver}
 use Rattle.sample_calls.specs.Call.{Outcome, called, accepts}
 use Rattle.sample_calls.specs.Calls.{Call, whole, strobes_of, outputs_of}
@@ -43,7 +42,7 @@ pub record Heard : Type 0 where
 
 -- in a call
 abbrev pub instants_on : Waiting → Call → List Instant
-instants_on w c = cond (accepts (handed w c) c.strobes c.output) (instants complex (sync w.receiver.timing) (samples (handed w c)) (length c.strobes / 2)) []
+instants_on w c = cond (accepts (handed w c) c.strobes c.output) (instants complex w.receiver.timing (samples (handed w c)) (length c.strobes / 2)) []
 
 abbrev pub heard_on : Waiting → Call → Heard
 heard_on w c = let o = call_on w c in record { strobes = strobes_of o; outputs = outputs_of o; instants = instants_on w c; consumed = o.consumed; produced = o.produced; receiver = o.receiver }

@@ -1,14 +1,21 @@
 -- P7: when two cuts of a recording give the same, and how cuts are counted. Definitions only.
-use Rattle.std.specs.Prelude.{ℕ, ◌+◌, ◌%◌, ◌^◌, Bool, cond, ◌&&◌, List, [], ◌∷◌, Float}
+use Rattle.std.specs.Prelude.{ℕ, ◌+◌, ◌%◌, ◌^◌, Bool, cond, ◌&&◌, List, [], ◌∷◌, Option, Some, None, Float}
 use Rattle.answers.specs.Slices.{same_floats, same_words}
+use Rattle.values.specs.declared.error.Refusal.{Refusal}
+use Rattle.values.specs.Refusal.{number_of}
 use Rattle.replay_states.specs.Words.{timing_words, carrier_words}
 use Rattle.blocks_replay.specs.declared.calls.Received.{Received}
 use Rattle.blocks_replay.specs.declared.tally.Tally.{Tally}
 
 -- ---- what a cut gives
+-- the number of a refusal, and 0 where there is none
+abbrev pub number_in : Option Refusal → ℕ
+number_in None = 0
+number_in (Some n) = number_of n
+
 -- the symbol count, the number and the sums of the counts
 abbrev pub sum_words : Received → List ℕ
-sum_words s = s.receiver.count ∷ s.number ∷ s.consumed ∷ s.produced ∷ []
+sum_words s = s.receiver.count ∷ number_in s.refusal ∷ s.consumed ∷ s.produced ∷ []
 
 -- these and every field of both loops
 unfoldable pub same_received : Received → Received → Bool

@@ -14,27 +14,32 @@ mod report;
 mod set_ups;
 mod tally;
 
+use set_ups::{CONSTELLATIONS, DETECTORS, Kinds};
 use tally::Tally;
 
 // How many bytes a recording has.
 const BYTES: usize = 32000;
 
 // Compares the cuts of a recording under a set-up, and writes the line of it.
-fn show(rt: &impl Print, code: u64, input: &[f32], name: &[u8]) -> Tally {
-    report::heading(rt, code, name);
-    let tally = compare::compare_cuts(rt, set_ups::set_up(code), input);
+fn show(rt: &impl Print, kinds: Kinds, input: &[f32], name: &str) -> Tally {
+    report::heading(rt, kinds, name);
+    let tally = compare::compare_cuts(rt, set_ups::set_up(kinds), input);
     report::line(rt, tally);
     tally
 }
 
 // Every set-up receives both recordings.
 fn compare_all(rt: &impl Print, recorded: &[f32], damaged: &[f32]) -> Tally {
-    let mut total = tally::start(0, 0);
-    let mut code = 0;
-    while code < set_ups::SET_UPS {
-        total = tally::added(total, show(rt, code, recorded, b"as recorded"));
-        total = tally::added(total, show(rt, code, damaged, b"damaged"));
-        code += 1;
+    let mut total = Tally::start(0, 0);
+    for detector in DETECTORS {
+        for constellation in CONSTELLATIONS {
+            let kinds = Kinds {
+                detector: detector,
+                constellation: constellation,
+            };
+            total = total.plus(show(rt, kinds, recorded, "as recorded"));
+            total = total.plus(show(rt, kinds, damaged, "damaged"));
+        }
     }
     total
 }

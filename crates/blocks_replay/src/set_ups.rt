@@ -1,19 +1,48 @@
 // What the receiver is set up with: both detectors, and under each all constellations.
 ghost use Rattle.receiver.specs.Record.{SetUpGiven};
 
-use plain::{constellation, detector};
-use receiver::SetUp;
+use constellations::CostasConstellation;
+use receiver::Receiver;
+use std::fmt;
+use timing::Ted;
+use values::Refusal;
 
-// How many set-ups there are.
-pub(crate) const SET_UPS: u64 = 6;
+pub(crate) const DETECTORS: [Ted; 2] = [Ted::Gardner, Ted::MuellerMuller];
 
-// The set-up of a number below 6.
-pub(crate) fn set_up(code: u64) -> SetUp
+pub(crate) const CONSTELLATIONS: [CostasConstellation; 3] = [
+    CostasConstellation::Bpsk,
+    CostasConstellation::Qpsk,
+    CostasConstellation::Psk8,
+];
+
+#[derive(Clone, Copy)]
+pub(crate) struct Kinds {
+    pub detector: Ted,
+    pub constellation: CostasConstellation,
+}
+
+impl fmt::Display for Kinds {
+    fn fmt<W: fmt::Write>(&self, f: &mut fmt::Formatter<W>) -> fmt::Result {
+        let detector = match self.detector {
+            Ted::Gardner => "Gardner",
+            Ted::MuellerMuller => "Mueller-Müller",
+        };
+        let constellation = match self.constellation {
+            CostasConstellation::Bpsk => "BPSK",
+            CostasConstellation::Qpsk => "QPSK",
+            CostasConstellation::Psk8 => "8-PSK",
+        };
+        write!(f, "{detector}, {constellation}")
+    }
+}
+
+// The receiver of these kinds, with what it is set up with for the sample recording.
+pub(crate) fn set_up(kinds: Kinds) -> Result<Receiver, Refusal>
     ensures { SetUpGiven result }
 {
     receiver::set_up(
-        constellation((code % 3) as u32),
-        recordings::timing_defaults(detector((code / 3 % 2) as u32)),
+        kinds.constellation,
+        recordings::timing_defaults(kinds.detector),
         recordings::carrier_defaults(),
     )
 }

@@ -12,42 +12,44 @@ pub(crate) struct Tally {
     pub differ: u64,
 }
 
-// Of so many samples and symbols, before the first cut.
-pub(crate) fn start(consumed: u64, produced: u64) -> Tally {
-    Tally {
-        consumed: consumed,
-        produced: produced,
-        cuts: 0,
-        differ: 0,
+impl Tally {
+    // Of so many samples and symbols, before the first cut.
+    pub(crate) fn start(consumed: u64, produced: u64) -> Tally {
+        Tally {
+            consumed: consumed,
+            produced: produced,
+            cuts: 0,
+            differ: 0,
+        }
     }
-}
 
-// Of one cut.
-fn one(agrees: bool) -> Tally
-    ensures { result ≡ one_cut agrees }
-{
-    Tally {
-        consumed: 0,
-        produced: 0,
-        cuts: 1,
-        differ: if agrees { 0 } else { 1 },
+    // Of one cut.
+    fn one(agrees: bool) -> Tally
+        ensures { result ≡ one_cut agrees }
+    {
+        Tally {
+            consumed: 0,
+            produced: 0,
+            cuts: 1,
+            differ: if agrees { 0 } else { 1 },
+        }
     }
-}
 
-pub(crate) fn added(a: Tally, b: Tally) -> Tally
-    ensures { result ≡ sum_of a b }
-{
-    Tally {
-        consumed: std::num::wrapping_add_u64(a.consumed, b.consumed),
-        produced: std::num::wrapping_add_u64(a.produced, b.produced),
-        cuts: std::num::wrapping_add_u64(a.cuts, b.cuts),
-        differ: std::num::wrapping_add_u64(a.differ, b.differ),
+    pub(crate) fn plus(self, other: Tally) -> Tally
+        ensures { result ≡ sum_of self other }
+    {
+        Tally {
+            consumed: self.consumed.wrapping_add(other.consumed),
+            produced: self.produced.wrapping_add(other.produced),
+            cuts: self.cuts.wrapping_add(other.cuts),
+            differ: self.differ.wrapping_add(other.differ),
+        }
     }
-}
 
-// Counts a cut.
-pub(crate) fn count(t: Tally, agrees: bool) -> Tally
-    ensures { result ≡ counted t agrees }
-{
-    added(t, one(agrees))
+    // With one cut more.
+    pub(crate) fn with_cut(self, agrees: bool) -> Tally
+        ensures { result ≡ counted self agrees }
+    {
+        self.plus(Tally::one(agrees))
+    }
 }

@@ -1,15 +1,13 @@
 -- X9 to X12, X18 and X19: two octants, two of QPSK's measures, and the lock at both of its levels. (The phase steps
 -- are in `modulate`.) Definitions only.
-use Rattle.std.specs.Prelude.{◌≡◌, Bool, true, false, from_bits, Float}
+use Rattle.std.specs.Prelude.{◌≡◌, Bool, true, false, from_bits, Float, Some, None}
 use Rattle.std.specs.Float.{binary32}
 use Rattle.ieee.specs.Notation.{zero₀, half₀, one₀, decimal}
 use Rattle.values.specs.declared.sample.C32.{C32}
 use Rattle.values.specs.Samples.{silence}
 use Rattle.constellations.specs.declared.kinds.CostasConstellation.TheVariants.{Qpsk}
-use Rattle.detectors.specs.declared.lock.Metric.{Metric}
-use Rattle.detectors.specs.declared.lock.Metric.TheVariants.{Number, Nothing}
+use Rattle.detectors.specs.Lock.{Metric, metric_of, lock_after}
 use Rattle.constellations.specs.Octant.{octant_of, decision_of}
-use Rattle.detectors.specs.Lock.{metric_of, lock_after}
 
 -- (1, 1) and (0, 1)
 abbrev diagonal : C32
@@ -34,9 +32,9 @@ pub record Cases : Type 0 where
   -- X10: (0, 1)
   pub octant-upright : octant_of upright ≡ 2
   -- X11: the measure of (1, 1)
-  pub qpsk-diagonal : qpsk_metric diagonal ≡ Number one₀
+  pub qpsk-diagonal : qpsk_metric diagonal ≡ Some one₀
   -- X12: silence has no measure
-  pub qpsk-silence : qpsk_metric silence ≡ Nothing
+  pub qpsk-silence : qpsk_metric silence ≡ None
   -- X18: exactly 0.5 leaves the lock as it was
   pub half_keeps : (was : Bool) → lock_after was half₀ ≡ was
   -- X19: and so does exactly 0.3

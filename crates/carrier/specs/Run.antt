@@ -1,5 +1,5 @@
 -- One call of the carrier loop: when it is refused, and with what number, state and output it ends. Definitions only.
-use Rattle.std.specs.Prelude.{ℕ, ◌*◌, ◌/◌, Bool, cond, not, ◌&&◌, List, length, take, ◌==◌, Float}
+use Rattle.std.specs.Prelude.{ℕ, ◌*◌, ◌/◌, Bool, cond, not, ◌&&◌, List, length, take, ◌==◌, Float, Result, Ok, Err}
 use Rattle.values.specs.declared.error.Refusal.{Refusal}
 use Rattle.values.specs.declared.error.Refusal.TheVariants.{Uneven, Odd}
 use Rattle.values.specs.Refusal.{number_of}
@@ -7,9 +7,11 @@ use Rattle.values.specs.Samples.{samples, parts}
 use Rattle.values.specs.Buffers.{odd_either, written}
 use Rattle.cosine.specs.Table.{cos_list}
 use Rattle.carrier.specs.declared.state.CostasState.{CostasState}
-use Rattle.carrier.specs.declared.state.Reply.{Reply}
-use Rattle.carrier.specs.declared.state.Reply.TheVariants.{Done, Refused}
 use Rattle.carrier.specs.Step.{Symbols, runs}
+
+-- a run's answer, which has no counts: every input sample gives an output sample
+abbrev pub Reply : Type 0
+Reply = Result (Unit {0}) Refusal
 
 -- A2: the number of the answer (0: done), the state, and what the output holds; there are no counts (A7)
 pub record Outcome : Type 0 where
@@ -19,8 +21,8 @@ pub record Outcome : Type 0 where
 
 -- K7: the number of an answer
 abbrev pub replied : Reply → ℕ
-replied Done = 0
-replied (Refused n) = number_of n
+replied (Ok u) = 0
+replied (Err n) = number_of n
 
 -- the symbols of a run from s
 abbrev pub symbols : CostasState → List Float → Symbols

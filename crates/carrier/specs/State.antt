@@ -1,6 +1,6 @@
 -- The state of the loop: which set-up is refused and which state a set-up, a reset or a setter gives; and what holds
 -- of every such state. Definitions only.
-use Rattle.std.specs.Prelude.{◌≡◌, ℕ, ◌^◌, ◌<◌, true, false, cond, T, List, [], ◌∷◌, is_nan, Float}
+use Rattle.std.specs.Prelude.{◌≡◌, ℕ, ◌^◌, ◌<◌, true, false, cond, T, List, [], ◌∷◌, is_nan, Float, Result, Ok, Err}
 use Rattle.std.specs.Float.{binary32, binary64}
 use Rattle.std.specs.Float.Ieee.{neg, le}
 use Rattle.ieee.specs.Notation.{zero₀, decimal}
@@ -14,9 +14,12 @@ use Rattle.checks.specs.Table.{Row, first_of}
 use Rattle.constellations.specs.declared.kinds.CostasConstellation.{CostasConstellation}
 use Rattle.carrier.specs.declared.params.Params.{Params}
 use Rattle.carrier.specs.declared.state.CostasState.{CostasState}
-use Rattle.carrier.specs.declared.state.SetUp.{SetUp}
-use Rattle.carrier.specs.declared.state.SetUp.TheVariants.{Ready, Refused}
 use Rattle.carrier.specs.Gains.{kp_of, ki_of}
+use Rattle.values.specs.declared.error.Refusal.{Refusal}
+
+-- a set-up's answer: the state, or why it is refused
+abbrev pub SetUp : Type 0
+SetUp = Result CostasState Refusal
 
 -- C5: the values of a set-up with its gains (C3) and the limit of the frequency
 unfoldable pub params_of : Float → Float → Float → Params
@@ -37,16 +40,16 @@ rows bw damping offset =
 
 -- C4: a set-up's answer; a refused one has no state (A6)
 unfoldable pub opened : CostasConstellation → Float → Float → Float → SetUp
-opened c bw damping offset = first_of Refused (rows bw damping offset) (Ready (fresh c (params_of bw damping offset)))
+opened c bw damping offset = first_of Err (rows bw damping offset) (Ok (fresh c (params_of bw damping offset)))
 
 -- K7: its number (0: accepted)
 abbrev pub set_up_number : SetUp → ℕ
-set_up_number (Ready s) = 0
-set_up_number (Refused n) = number_of n
+set_up_number (Ok s) = 0
+set_up_number (Err n) = number_of n
 
 -- p is what an accepted set-up works out
 abbrev pub Accepted : CostasConstellation → Params → Type 0
-Accepted c p = opened c p.loop_bw p.damping p.max_offset ≡ Ready (fresh c p)
+Accepted c p = opened c p.loop_bw p.damping p.max_offset ≡ Ok (fresh c p)
 
 -- C8: the phase is set, and all else stays
 abbrev pub phase_set : CostasState → ℕ → CostasState
@@ -71,5 +74,5 @@ pub record Given (s : CostasState) : Type 0 where
   pub freq-high : T (le s.track.nco.freq s.params.max)
 
 abbrev pub SetUpGiven : SetUp → Type 0
-SetUpGiven (Ready s) = Given s
-SetUpGiven (Refused n) = T true
+SetUpGiven (Ok s) = Given s
+SetUpGiven (Err n) = T true

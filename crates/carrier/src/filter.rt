@@ -13,7 +13,7 @@ use numbers::TINY_F32;
 
 // The oscillator.
 #[repr(C)]
-#[derive(Clone, Copy)]
+#[derive(Clone, Copy, Default)]
 pub struct Nco {
     // Phase before the next symbol, in units of 2^-32 turn.
     pub phase: u32,
@@ -30,7 +30,7 @@ pub(crate) fn integrate(t: f32, limit: f32) -> f32
     if a <= limit && a >= TINY_F32 {
         return t;
     }
-    numbers::limit_f32(numbers::flush_denormal(t), limit)
+    numbers::limit(numbers::flush_denormal(t), limit)
 }
 
 // The oscillator after the finite error e.
@@ -51,7 +51,7 @@ fn steer(p: Params, n: Nco, e: f32) -> Nco
 fn coast(p: Params, n: Nco) -> Nco
     ensures { result ≡ advanced p n zero₀ }
 {
-    let freq = numbers::limit_f32(numbers::flush_denormal(n.freq + p.ki * 0.0f32), p.max);
+    let freq = numbers::limit(numbers::flush_denormal(n.freq + p.ki * 0.0f32), p.max);
     let step = modulate::phase_step(numbers::widen(freq + p.kp * 0.0f32), TURN);
     Nco {
         phase: std::num::wrapping_add_u32(n.phase, step),
@@ -63,7 +63,7 @@ fn coast(p: Params, n: Nco) -> Nco
 pub(crate) fn advance(p: Params, n: Nco, e: f32) -> Nco
     ensures { result ≡ advanced p n (calmed e) }
 {
-    if numbers::is_finite_f32(e) {
+    if numbers::is_finite(e) {
         steer(p, n, e)
     } else {
         coast(p, n)

@@ -11,6 +11,6 @@ mod symbol;
 pub use constellations::CostasConstellation;
 pub use detectors::{Lock, derotate};
 pub use filter::Nco;
-pub use params::Params;
-pub use state::{CostasState, Reply, SetUp, reset, set_frequency, set_phase, set_up};
+pub use params::{CarrierValues, Params};
+pub use state::{CostasState, number_of, reset, set_frequency, set_phase, set_up};
 pub use symbol::{Track, step};

@@ -3,11 +3,9 @@ ghost use Rattle.std.specs.Prelude.{◌≡◌};
 ghost use Rattle.carrier.specs.Run.{replied};
 ghost use Rattle.carrier.specs.State.{params_of, fresh, opened, phase_set, frequency_of, frequency_set, Given, SetUpGiven};
 
-use crate::filter::Nco;
-use crate::params::Params;
+use crate::params::{CarrierValues, Params};
 use crate::symbol::Track;
 use constellations::CostasConstellation;
-use detectors::Lock;
 use values::Refusal;
 
 // Loop bandwidth, normalized to the symbol rate.
@@ -24,7 +22,8 @@ const MIN_OFFSET: f64 = 0.0;
 
 const MAX_OFFSET: f64 = 0.25;
 
-// C6: the constellation, what a set-up settles, and what a run changes.
+// C6: the constellation, what a set-up settles, and what a run changes. `Given` (A9) is a clause of each call and no
+// invariant: readings and conversions take any state.
 #[derive(Clone, Copy)]
 pub struct CostasState {
     pub constellation: CostasConstellation,
@@ -32,44 +31,29 @@ pub struct CostasState {
     pub track: Track,
 }
 
-// The answer of a set-up.
-#[derive(Clone, Copy)]
-pub enum SetUp {
-    Ready(CostasState),
-    Refused(Refusal),
-}
-
-// The answer of a run, which has no counts: every input sample gives an output sample.
-#[derive(Clone, Copy)]
-pub enum Reply {
-    Done,
-    Refused(Refusal),
-}
-
-impl Reply {
-    // K7: the number of the answer, 0 where the run is done.
-    pub fn number(self) -> u32
-        ensures { result ≡ replied self }
-    {
-        match self {
-            Reply::Done => 0,
-            Reply::Refused(n) => n.number(),
-        }
+// K7: the number of a run's answer, 0 where the run is done. It has no counts: every input sample gives an
+// output sample.
+pub fn number_of(answer: Result<(), Refusal>) -> u32
+    ensures { result ≡ replied answer }
+{
+    match answer {
+        Ok(()) => 0,
+        Err(n) => n.number(),
     }
 }
 
 // C5: the values of a set-up with the gains and the limit. The limit is flushed: below 1e-30 it would keep
 // the integrator subnormal.
-fn params_of(loop_bw: f64, damping: f64, max_offset: f64) -> Params
-    ensures { result ≡ params_of loop_bw damping max_offset }
+fn params_of(v: CarrierValues) -> Params
+    ensures { result ≡ params_of v.loop_bw v.damping v.max_offset }
 {
-    let g = crate::params::loop_gains(loop_bw, damping);
-    let single = numbers::narrow(max_offset);
+    let g = crate::params::loop_gains(v.loop_bw, v.damping);
+    let single = numbers::narrow(v.max_offset);
     let limit = numbers::flush_denormal(single);
     Params {
-        loop_bw: loop_bw,
-        damping: damping,
-        max_offset: max_offset,
+        loop_bw: v.loop_bw,
+        damping: v.damping,
+        max_offset: v.max_offset,
         kp: g.kp,
         ki: g.ki,
         max: limit,
@@ -80,50 +64,32 @@ fn params_of(loop_bw: f64, damping: f64, max_offset: f64) -> Params
 fn start(constellation: CostasConstellation, p: Params) -> CostasState
     ensures { result ≡ fresh constellation p }
 {
-    let nco = Nco {
-        phase: 0,
-        freq: 0.0,
-    };
-    let lock = Lock {
-        level: 0.0,
-        locked: false,
-    };
-    let track = Track {
-        nco: nco,
-        lock: lock,
-    };
     CostasState {
         constellation: constellation,
         params: p,
-        track: track,
+        track: Track::default(),
     }
 }
 
-// C4: a fresh state, or the lowest number of what is wrong with the three values: loop_bw, 0.0001 to
-// 0.2 of the symbol rate; damping, 0.1 to 4 (1/√2 is usual); max_offset, 0 to 0.25 cycles per symbol.
-// The original's refusal of gains that are not finite is left out: with values in range they are
-// finite (`gains-finite`, A11).
-pub fn set_up(
-    constellation: CostasConstellation,
-    loop_bw: f64,
-    damping: f64,
-    max_offset: f64,
-) -> SetUp
-    ensures outcome { result ≡ opened constellation loop_bw damping max_offset }
+// C4: a fresh state, or the lowest number of what is wrong with the values, whose ranges stand at
+// `CarrierValues`. The original's refusal of gains that are not finite is left out: with values in range they
+// are finite (`gains-finite`, A11).
+pub fn set_up(constellation: CostasConstellation, v: CarrierValues) -> Result<CostasState, Refusal>
+    ensures outcome { result ≡ opened constellation v.loop_bw v.damping v.max_offset }
     ensures given { SetUpGiven result }
 {
-    if !checks::within(MIN_LOOP_BW, loop_bw, MAX_LOOP_BW) {
-        return SetUp::Refused(Refusal::Width);
+    if !checks::within(MIN_LOOP_BW, v.loop_bw, MAX_LOOP_BW) {
+        return Err(Refusal::Width);
     }
-    if !checks::within(MIN_DAMPING, damping, MAX_DAMPING) {
-        return SetUp::Refused(Refusal::Damping);
+    if !checks::within(MIN_DAMPING, v.damping, MAX_DAMPING) {
+        return Err(Refusal::Damping);
     }
-    if !checks::within(MIN_OFFSET, max_offset, MAX_OFFSET) {
-        return SetUp::Refused(Refusal::Pull);
+    if !checks::within(MIN_OFFSET, v.max_offset, MAX_OFFSET) {
+        return Err(Refusal::Pull);
     }
-    let p = params_of(loop_bw, damping, max_offset);
+    let p = params_of(v);
     let s = start(constellation, p);
-    SetUp::Ready(s)
+    Ok(s)
 }
 
 // C7: the state after construction. The parameters are kept.
@@ -132,9 +98,7 @@ pub fn reset(s: CostasState) -> CostasState
     ensures state { result ≡ fresh s.constellation s.params }
     ensures given { Given result }
 {
-    let c = s.constellation;
-    let p = s.params;
-    start(c, p)
+    start(s.constellation, s.params)
 }
 
 // C8: sets the phase, in units of 2^-32 turn.
@@ -143,22 +107,9 @@ pub fn set_phase(s: CostasState, phase: u32) -> CostasState
     ensures state { result ≡ phase_set s phase }
     ensures given { Given result }
 {
-    let c = s.constellation;
-    let p = s.params;
-    let lock = s.track.lock;
-    let nco = Nco {
-        phase: phase,
-        freq: s.track.nco.freq,
-    };
-    let track = Track {
-        nco: nco,
-        lock: lock,
-    };
-    CostasState {
-        constellation: c,
-        params: p,
-        track: track,
-    }
+    let mut after = s;
+    after.track.nco.phase = phase;
+    after
 }
 
 // The frequency that is taken for freq: narrowed, flushed and limited; a NaN gives 0.
@@ -167,11 +118,7 @@ fn frequency_of(freq: f64, max: f32) -> f32
 {
     let single = numbers::narrow(freq);
     let f = numbers::flush_denormal(single);
-    if f != f {
-        0.0
-    } else {
-        numbers::limit_f32(f, max)
-    }
+    if f != f { 0.0 } else { numbers::limit(f, max) }
 }
 
 // C9: sets the frequency integrator, in cycles per symbol. The phase and the lock detector stay.
@@ -180,23 +127,9 @@ pub fn set_frequency(s: CostasState, freq: f64) -> CostasState
     ensures state { result ≡ frequency_set s freq }
     ensures given { Given result }
 {
-    let c = s.constellation;
-    let p = s.params;
-    let lock = s.track.lock;
-    let f = frequency_of(freq, p.max);
-    let nco = Nco {
-        phase: s.track.nco.phase,
-        freq: f,
-    };
-    let track = Track {
-        nco: nco,
-        lock: lock,
-    };
-    CostasState {
-        constellation: c,
-        params: p,
-        track: track,
-    }
+    let mut after = s;
+    after.track.nco.freq = frequency_of(freq, s.params.max);
+    after
 }
 
 // C21: the readings.

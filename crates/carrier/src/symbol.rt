@@ -10,7 +10,7 @@ use values::C32;
 
 // What a run changes.
 #[repr(C)]
-#[derive(Clone, Copy)]
+#[derive(Clone, Copy, Default)]
 pub struct Track {
     pub nco: Nco,
     pub lock: Lock,

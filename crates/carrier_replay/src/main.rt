@@ -21,134 +21,20 @@
 //   l  lock level, locked, constellation
 #![tactic(auto)]
 
+mod calls;
 mod counts;
-mod state;
 
-ghost use Rattle.carrier.specs.State.{Given};
-ghost use Rattle.replay.specs.Tally.{Tallied};
+use calls::Calls;
+use carrier::{CarrierValues, CostasConstellation};
 
-use answers::Operation;
-use carrier::{CostasConstellation, CostasState, SetUp};
-use replay::{LINES, buffers, tally};
-use std::io::Read;
-
-// Plays an operation, and counts it.
-fn play(
-    rt: &impl Print,
-    s: CostasState,
-    op: Operation,
-    line: &[u8],
-    values: &mut [u64; 5],
-    input: &mut [f32; 192],
-    output: &mut [f32; 192],
-    tally: &mut [u64; 16],
-) -> CostasState
-    requires { Given s }
-    ensures given { Given result }
-    ensures tallied { Tallied 1 tally.old tally.new }
-{
-    let mut agrees = buffers::play(op, values, input, output);
-    let after = state::play(s, op, values, input, output, &mut agrees);
-    tally::count_line(rt, tally, counts::place(op.letter), line, agrees);
-    after
-}
-
-// Plays a damaged operation, which must be counted as differing. It has no other effect.
-fn play_damaged(
-    rt: &impl Print,
-    s: CostasState,
-    op: Operation,
-    values: &[u64; 5],
-    input: &[f32; 192],
-    output: &[f32; 192],
-    damaged: &mut [u64; 16],
-)
-    requires { Given s }
-{
-    let op = answers::damaged(op, tally::played(damaged));
-    let mut values = *values;
-    let mut input = *input;
-    let mut output = *output;
-    play(
-        rt,
-        s,
-        op,
-        b"",
-        &mut values,
-        &mut input,
-        &mut output,
-        damaged,
-    );
-}
-
-// Plays a line, first damaged and then as it is.
-fn play_line(
-    rt: &impl Print,
-    s: CostasState,
-    line: &[u8],
-    values: &mut [u64; 5],
-    input: &mut [f32; 192],
-    output: &mut [f32; 192],
-    tally: &mut [u64; 16],
-    damaged: &mut [u64; 16],
-) -> CostasState
-    requires { Given s }
-    ensures given { Given result }
-    ensures tallied { Tallied 1 tally.old tally.new }
-{
-    let op = answers::read_operation(line);
-    play_damaged(rt, s, op, values, input, output, damaged);
-    play(rt, s, op, line, values, input, output, tally)
-}
-
-// Plays line after line, up to the end of the input, and says how many. What is left there after the last
-// whole line counts as a line too.
-fn play_lines(
-    rt: &impl Print,
-    reader: &mut impl Read,
-    first: CostasState,
-    tally: &mut [u64; 16],
-    damaged: &mut [u64; 16],
-) -> u64
-    requires { Given first }
-    ensures { Tallied result tally.old tally.new }
-{
-    let mut values = [0u64; 5];
-    let mut input = [0.0f32; 192];
-    let mut output = [0.0f32; 192];
-    let mut s = first;
-    let mut count = 0;
-    while count < LINES {
-        let mut line = [0u8; 53];
-        let n = replay::read_full(reader, &mut line);
-        if n == 0 {
-            return count;
-        }
-        s = play_line(
-            rt,
-            s,
-            &line[..n],
-            &mut values,
-            &mut input,
-            &mut output,
-            tally,
-            damaged,
-        );
-        count += 1;
-    }
-    count
-}
-
-// Some state is there before the first line sets up its own.
+// Some state is there before the first line sets up its own. Its values are accepted.
 fn main(rt: HostRuntime) {
-    let mut reader = rt.reader();
-    let mut tally = [0; 16];
-    let mut damaged = tally::of_damaged();
-    let mut lines = 0;
-    match carrier::set_up(CostasConstellation::Bpsk, 0.01, 0.7, 0.1) {
-        SetUp::Ready(s) => lines = play_lines(&rt, &mut reader, s, &mut tally, &mut damaged),
-        SetUp::Refused(_) => {}
+    let v = CarrierValues {
+        loop_bw: 0.01,
+        damping: 0.7,
+        max_offset: 0.1,
+    };
+    if let Ok(s) = carrier::set_up(CostasConstellation::Bpsk, v) {
+        replay::replay(&rt, Calls::on(s), &counts::KINDS);
     }
-    tally::too_long(&rt, &mut tally, lines);
-    counts::show(&rt, &tally, &damaged);
 }

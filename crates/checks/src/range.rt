@@ -6,12 +6,12 @@ ghost use Rattle.checks.specs.Range.{in_range, positive};
 pub fn within(lo: f64, x: f64, hi: f64) -> bool
     ensures { result ≡ in_range lo x hi }
 {
-    numbers::is_finite_f64(x) && lo <= x && x <= hi
+    numbers::is_finite(x) && lo <= x && x <= hi
 }
 
 // E5: whether x is finite and above 0.
 pub fn above_zero(x: f64) -> bool
     ensures { result ≡ positive x }
 {
-    numbers::is_finite_f64(x) && x > 0.0
+    numbers::is_finite(x) && x > 0.0
 }

@@ -3,9 +3,8 @@
 use Rattle.std.specs.Prelude.{◌*◌, ◌/◌, List, length, take, Float}
 use Rattle.values.specs.declared.sample.C32.{C32}
 use Rattle.values.specs.Samples.{samples}
-use Rattle.carrier.specs.Run.{Outcome, replied}
+use Rattle.carrier.specs.Run.{Outcome, replied, Reply}
 use Rattle.carrier.specs.declared.state.CostasState.{CostasState}
-use Rattle.carrier.specs.declared.state.Reply.{Reply}
 use Rattle.costas.specs.declared.symbols.Ran.{Ran}
 
 abbrev pub outcome_of : Reply → CostasState → List Float → Outcome

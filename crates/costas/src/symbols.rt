@@ -1,29 +1,21 @@
 // The run over slices that the caller lends: one output sample for each input sample.
-ghost use Rattle.std.specs.Prelude.{◌≡◌, min};
+ghost use Rattle.std.specs.Prelude.{◌≡◌, Ok, Err};
 ghost use Rattle.values.specs.Samples.{parts};
 ghost use Rattle.values.specs.Buffers.{written};
 ghost use Rattle.cosine.specs.Table.{cos_list};
 ghost use Rattle.carrier.specs.Step.{runs};
 ghost use Rattle.carrier.specs.State.{Given};
-ghost use Rattle.carrier.specs.declared.state.Reply.TheVariants.{Done, Refused};
 ghost use Rattle.carrier.specs.Run.{carried, called};
 ghost use Rattle.costas.specs.Answered.{outcome_of, answered, reached};
 
-use carrier::{CostasConstellation, CostasState, Params, Reply, Track};
+use carrier::{CostasConstellation, CostasState, Params, Track};
 use values::Refusal;
 
 // The answer of a run, and the state after it.
 #[derive(Clone, Copy)]
 pub struct Ran {
-    pub answer: Reply,
+    pub answer: Result<(), Refusal>,
     pub state: CostasState,
-}
-
-// The smaller of two counts.
-fn least(a: usize, b: usize) -> usize
-    ensures { result ≡ min a b }
-{
-    if a < b { a } else { b }
 }
 
 // The symbols that both buffers have whole, after the carrier is removed: as many output samples stand at the
@@ -40,16 +32,14 @@ fn symbols(
     ensures output { output.new ≡ written (parts (runs cos_list constellation p t (reached input.now output.old)).values) output.old }
 {
     let table = tables::cos_f32_table();
-    let n = least(input.len() / 2, output.len() / 2);
+    let n = (input.len() / 2).min(output.len() / 2);
     let mut t = t;
-    let mut k = 0;
-    while k < n {
+    for k in 0..n {
         let x = values::sample_at(input, k);
         let q = mix::interp_f32_pair(&table, t.nco.phase);
         let y = carrier::derotate(x, q);
         values::store_sample(output, k, y);
         t = carrier::step(constellation, p, t, y);
-        k += 1;
     }
     t
 }
@@ -58,26 +48,19 @@ fn symbols(
 // reads: a whole state handed to it and back is moved about in memory, which shows in short calls.
 pub fn carry(s: CostasState, input: &[f32], output: &mut [f32]) -> CostasState
     requires { Given s }
-    ensures outcome { outcome_of Done result output.new ≡ carried s input.now output.old }
+    ensures outcome { outcome_of (Ok tt) result output.new ≡ carried s input.now output.old }
     ensures given { Given result }
 {
-    let c = s.constellation;
-    let p = s.params;
-    let t = s.track;
-    let last = symbols(c, p, t, input, output);
-    CostasState {
-        constellation: c,
-        params: p,
-        track: last,
-    }
+    let last = symbols(s.constellation, s.params, s.track, input, output);
+    CostasState { track: last, ..s }
 }
 
 // A refused call.
 fn refused(n: Refusal, s: CostasState) -> Ran
-    ensures { result ≡ record { answer = Refused n; state = s } }
+    ensures { result ≡ record { answer = Err n; state = s } }
 {
     Ran {
-        answer: Reply::Refused(n),
+        answer: Err(n),
         state: s,
     }
 }
@@ -97,7 +80,7 @@ pub fn run(s: CostasState, input: &[f32], output: &mut [f32]) -> Ran
     }
     let state = carry(s, input, output);
     Ran {
-        answer: Reply::Done,
+        answer: Ok(()),
         state: state,
     }
 }

@@ -1,5 +1,5 @@
 -- C19 and C20: the lock measure, and what it does to level and lock. In f32. Definitions only.
-use Rattle.std.specs.Prelude.{Bool, true, false, cond, Float}
+use Rattle.std.specs.Prelude.{Bool, true, false, cond, Float, Option, Some, None}
 use Rattle.std.specs.Float.{binary32}
 use Rattle.std.specs.Float.Ieee.{lt}
 use Rattle.std.specs.Float.Ieee.Scale.{finite}
@@ -9,9 +9,11 @@ use Rattle.numbers.specs.Denormal.{flushed}
 use Rattle.constellations.specs.declared.kinds.CostasConstellation.{CostasConstellation}
 use Rattle.constellations.specs.declared.kinds.CostasConstellation.TheVariants.{Bpsk, Qpsk, Psk8}
 use Rattle.constellations.specs.Octant.{decision_of}
-use Rattle.detectors.specs.declared.lock.Metric.{Metric}
-use Rattle.detectors.specs.declared.lock.Metric.TheVariants.{Number, Nothing}
 use Rattle.detectors.specs.declared.lock.Lock.{Lock}
+
+-- C19: a lock measure, or none where it is not finite
+abbrev pub Metric : Type 0
+Metric = Option Float
 
 abbrev pub square : Float → Float
 square x = x ⊗ x
@@ -53,7 +55,7 @@ measured_own c y = measured c y (decision_of c y)
 
 -- C19: a measure that is not finite counts as none
 unfoldable pub metric_of : CostasConstellation → C32 → C32 → Metric
-metric_of c y d = let m = measured c y d in cond (finite m) (Number m) Nothing
+metric_of c y d = let m = measured c y d in cond (finite m) (Some m) None
 
 -- ---- level and lock
 -- C20: the level after the measure m
@@ -66,5 +68,5 @@ lock_after was level = cond (lt half₀ level) true (cond (lt level (decimal bin
 
 -- C20: what a measure does to level and lock; without one nothing changes
 unfoldable pub watched : Lock → Metric → Lock
-watched k (Number m) = let l = smoothed k.level m in record { level = l; locked = lock_after k.locked l }
-watched k Nothing = k
+watched k (Some m) = let l = smoothed k.level m in record { level = l; locked = lock_after k.locked l }
+watched k None = k

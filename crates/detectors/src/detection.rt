@@ -57,7 +57,8 @@ fn detector4(y: C32) -> f32
     sign_times(y.re, y.im) - sign_times(y.im, y.re)
 }
 
-// C16: the detector's value of y with the point d; it may not be finite.
+// C16: the detector's value of y with the point d; it may not be finite. The constellation, the symbol and its point
+// come one by one, as in the original (F1): a struct of them would be no plainer.
 pub fn detector(constellation: CostasConstellation, y: C32, d: C32) -> f32
     ensures { result ≡ detected constellation y d }
 {

@@ -6,4 +6,4 @@ mod detection;
 mod lock;
 
 pub use detection::{derotate, detector};
-pub use lock::{Lock, Metric, lock_metric, watch};
+pub use lock::{Lock, lock_metric, watch};

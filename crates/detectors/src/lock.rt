@@ -6,16 +6,9 @@ ghost use Rattle.detectors.specs.Lock.{bpsk_measure, qpsk_measure, psk8_measure,
 use constellations::CostasConstellation;
 use values::C32;
 
-// C19: a lock measure, or none where it is not finite.
-#[derive(Clone, Copy)]
-pub enum Metric {
-    Number(f32),
-    Nothing,
-}
-
 // The lock detector.
 #[repr(C)]
-#[derive(Clone, Copy)]
+#[derive(Clone, Copy, Default)]
 pub struct Lock {
     // Smoothed lock measure.
     pub level: f32,
@@ -76,15 +69,11 @@ fn measure(constellation: CostasConstellation, y: C32, d: C32) -> f32
 }
 
 // C19: the lock measure of y with the point d; none where it is not finite (silence, NaN, overflow).
-pub fn lock_metric(constellation: CostasConstellation, y: C32, d: C32) -> Metric
+pub fn lock_metric(constellation: CostasConstellation, y: C32, d: C32) -> Option<f32>
     ensures { result ≡ metric_of constellation y d }
 {
     let c = measure(constellation, y, d);
-    if numbers::is_finite_f32(c) {
-        Metric::Number(c)
-    } else {
-        Metric::Nothing
-    }
+    if numbers::is_finite(c) { Some(c) } else { None }
 }
 
 // C20: whether there is lock at this level, where there was before or not.
@@ -101,11 +90,11 @@ fn hold(was: bool, level: f32) -> bool
 }
 
 // C20: the lock detector after the measure m. Without a measure it stays as it is.
-pub fn watch(k: Lock, m: Metric) -> Lock
+pub fn watch(k: Lock, m: Option<f32>) -> Lock
     ensures { result ≡ watched k m }
 {
     match m {
-        Metric::Number(c) => {
+        Some(c) => {
             let level = numbers::flush_denormal(k.level + LOCK_ALPHA * (c - k.level));
             let locked = hold(k.locked, level);
             Lock {
@@ -113,6 +102,6 @@ pub fn watch(k: Lock, m: Metric) -> Lock
                 locked: locked,
             }
         }
-        Metric::Nothing => k,
+        None => k,
     }
 }

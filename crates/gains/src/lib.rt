@@ -4,4 +4,4 @@
 
 mod quotients;
 
-pub use quotients::{Quotients, inner_gains};
+pub use quotients::{Gains, inner_gains};

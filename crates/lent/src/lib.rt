@@ -53,6 +53,8 @@ pub fn caller<A, S: Call<A>>(s: S, input: &[f32], output: &mut [f32]) -> Ran<A, 
 }
 
 // A state with a call by value, over an input and two outputs.
+// Kept beside `Call`: what is lent can be no type parameter, since no clause can say what a value of one holds after the
+// call.
 pub trait CallOfTwo<A>: Copy {
     // What the call requires of the state.
     ghost Needs: { Self → Type 0 };

@@ -1,5 +1,5 @@
 // What the lines say before a set-up or a call: the values of both loops, and the input.
-use answers::{Operation, f64_of};
+use answers::{Operation, of_bits};
 use plain_timing::TimingValues;
 use receiver::CarrierValues;
 
@@ -26,49 +26,24 @@ pub(crate) fn nothing() -> Asked {
     }
 }
 
-pub(crate) fn note(asked: Asked, op: Operation) -> Asked {
-    let timing = asked.timing;
-    let carrier = asked.carrier;
-    let input = asked.input;
-    let letter = op.letter;
-    match letter {
-        b'v' => Asked {
-            timing: op,
-            carrier: carrier,
-            input: input,
-        },
-        b'c' => Asked {
-            timing: timing,
-            carrier: op,
-            input: input,
-        },
-        b'i' => Asked {
-            timing: timing,
-            carrier: carrier,
-            input: op,
-        },
-        _ => asked,
-    }
-}
-
 // What the `v` line before and this one ask for.
 pub(crate) fn timing_values(line: Operation, op: Operation) -> TimingValues {
     TimingValues {
-        sps: f64_of(line.x),
+        sps: of_bits(line.x),
         ted: (op.answer % 2) as u32,
-        loop_bw: f64_of(line.y),
-        damping: f64_of(line.answer),
-        max_deviation: f64_of(op.x),
-        ted_gain: f64_of(op.y),
+        loop_bw: of_bits(line.y),
+        damping: of_bits(line.answer),
+        max_deviation: of_bits(op.x),
+        ted_gain: of_bits(op.y),
     }
 }
 
 // What the `c` line before asks for.
 pub(crate) fn carrier_values(line: Operation) -> CarrierValues {
     CarrierValues {
-        loop_bw: f64_of(line.x),
-        damping: f64_of(line.y),
-        max_offset: f64_of(line.answer),
+        loop_bw: of_bits(line.x),
+        damping: of_bits(line.y),
+        max_offset: of_bits(line.answer),
     }
 }
 
@@ -77,7 +52,8 @@ pub(crate) fn code(op: Operation) -> u32 {
     (op.answer / 2 % 8) as u32
 }
 
-// The number that a set-up's line records.
+// The number that a set-up's line records. Kept in each of two programs: a shared function would need a contract and an
+// edit for one expression.
 pub(crate) fn number(op: Operation) -> u64 {
     op.answer / 16 % 16
 }

@@ -20,7 +20,7 @@ pub(crate) fn call(
     let mut lent = x;
     let counts = trr_receiver_receive(&mut lent, input, strobes, output);
     ReceiverRan {
-        counts: counts,
+        counts,
         receiver: lent,
     }
 }

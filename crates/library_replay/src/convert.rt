@@ -10,13 +10,7 @@ pub(crate) fn with_count(r: Receiver, count: u64) -> Receiver
     requires { Given r }
     ensures { Given result }
 {
-    let timing = r.timing;
-    let carrier = r.carrier;
-    Receiver {
-        timing: timing,
-        carrier: carrier,
-        count: count,
-    }
+    Receiver { count, ..r }
 }
 
 // The record converted down and up again, or as it was where its count is too large.
@@ -28,8 +22,7 @@ pub(crate) fn convert(r: Receiver) -> Receiver
     if narrowed.number > 0 {
         return r;
     }
-    let old = narrowed.receiver;
-    trr_receiver_widen(old)
+    trr_receiver_widen(narrowed.receiver)
 }
 
 // Whether the conversion down has the count and the number that the line records.

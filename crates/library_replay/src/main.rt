@@ -10,92 +10,16 @@
 
 mod asked;
 mod call;
+mod calls;
 mod convert;
 mod counts;
+mod held;
 mod loops;
-mod play;
 mod readings;
 mod run;
-mod slot;
 
-ghost use Rattle.library_replay.specs.Slot.{SlotGiven};
-ghost use Rattle.replay.specs.Tally.{Tallied};
-
-use answers::Operation;
-use asked::Asked;
-use play::Played;
-use replay::{LINES, tally};
-use std::io::Read;
-
-// Plays an operation on what the last one left, and counts it.
-fn count_played(
-    rt: &impl Print,
-    last: Played,
-    asked: Asked,
-    op: Operation,
-    line: &[u8],
-    tally: &mut [u64; 16],
-) -> Played
-    requires { SlotGiven last.slot }
-    ensures given { SlotGiven result.slot }
-    ensures tallied { Tallied 1 tally.old tally.new }
-{
-    let played = play::play(last, asked, op);
-    tally::count_line(rt, tally, counts::place(op.letter), line, played.agrees);
-    played
-}
-
-// Plays a line, first damaged, which must be counted as differing, and then as it is.
-fn play_line(
-    rt: &impl Print,
-    last: Played,
-    asked: Asked,
-    op: Operation,
-    line: &[u8],
-    tally: &mut [u64; 16],
-    damaged: &mut [u64; 16],
-) -> Played
-    requires { SlotGiven last.slot }
-    ensures given { SlotGiven result.slot }
-    ensures tallied { Tallied 1 tally.old tally.new }
-{
-    let wrong = answers::damaged(op, tally::played(damaged));
-    count_played(rt, last, asked, wrong, line, damaged);
-    count_played(rt, last, asked, op, line, tally)
-}
-
-// Plays line after line, up to the end of the input, and says how many. What is left there after the last
-// whole line counts as a line too.
-fn play_lines(
-    rt: &impl Print,
-    reader: &mut impl Read,
-    tally: &mut [u64; 16],
-    damaged: &mut [u64; 16],
-) -> u64
-    ensures { Tallied result tally.old tally.new }
-{
-    let mut lines = asked::nothing();
-    let mut played = play::start();
-    let mut count = 0;
-    while count < LINES {
-        let mut line = [0u8; 53];
-        let n = replay::read_full(reader, &mut line);
-        if n == 0 {
-            return count;
-        }
-        let op = answers::read_operation(&line[..n]);
-        lines = asked::note(lines, op);
-        played = play_line(rt, played, lines, op, &line[..n], tally, damaged);
-        count += 1;
-    }
-    count
-}
+use calls::Calls;
 
 fn main(rt: HostRuntime) {
-    let mut reader = rt.reader();
-    let mut tally = [0; 16];
-    let mut damaged = tally::of_damaged();
-    let lines = play_lines(&rt, &mut reader, &mut tally, &mut damaged);
-    tally::too_long(&rt, &mut tally, lines);
-    counts::show(&rt, &tally, &damaged);
+    replay::replay(&rt, Calls::new(), &counts::KINDS);
 }

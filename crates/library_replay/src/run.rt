@@ -1,10 +1,9 @@
 // A call on the three samples of a line.
-ghost use Rattle.std.specs.Prelude.{◌≡◌, ◌≤◌, length};
-ghost use Rattle.plain_receiver.specs.Receiver.{Given};
+ghost use Rattle.std.specs.Prelude.{◌≡◌, length};
 
 use crate::call::call;
-use answers::{Operation, f32_of, high, low, word};
-use plain_receiver::Receiver;
+use crate::held::Held;
+use answers::{Operation, high, low, of_bits, word};
 use replay::buffers::FILLING;
 use values::Counts;
 
@@ -12,17 +11,17 @@ use values::Counts;
 const SIX: usize = 6;
 
 // Six f32, as a line has them.
-#[derive(Clone, Copy)]
+#[derive(Clone, Copy, Default)]
 pub(crate) struct Six {
     pub x: u64,
     pub y: u64,
     pub z: u64,
 }
 
-// What a call left.
+// What a call left in the buffers, and whether it answers what the line says. Kept as a flag: the buffers hold what the
+// call left in either case.
 #[derive(Clone, Copy)]
-pub(crate) struct Ran {
-    pub receiver: Receiver,
+pub(crate) struct Left {
     pub strobes: Six,
     pub output: Six,
     pub agrees: bool,
@@ -51,16 +50,6 @@ fn floats_of(line: Operation) -> [f32; 6]
     ]
 }
 
-// The length that a line asks for, and no more than there is.
-fn part(asked: u64) -> usize
-    ensures { result ≤ 6 }
-{
-    if asked < SIX as u64 {
-        return asked as usize;
-    }
-    SIX
-}
-
 // Whether the call answers what the line says.
 fn counts_agree(counts: Counts, op: Operation) -> bool {
     counts.consumed as u64 == op.y % 0x1_0000_0000
@@ -68,24 +57,26 @@ fn counts_agree(counts: Counts, op: Operation) -> bool {
         && counts.number as u64 == op.answer
 }
 
-// Calls with as much of the buffers as the line says.
-pub(crate) fn run(x: Receiver, line: Operation, op: Operation) -> Ran
-    requires { Given x }
-    ensures { Given result.receiver }
-{
-    let input = floats_of(line);
-    let mut strobes = [f32_of(FILLING); 6];
-    let mut output = [f32_of(FILLING); 6];
-    let n = part(op.x % 0x1_0000);
-    let found = part(op.x / 0x1_0000 % 0x1_0000);
-    let places = part(op.x / 0x1_0000_0000);
-    let ran = call(x, &input[..n], &mut strobes[..found], &mut output[..places]);
-    let counts = ran.counts;
-    let receiver = ran.receiver;
-    Ran {
-        receiver: receiver,
-        strobes: words_of(strobes),
-        output: words_of(output),
-        agrees: counts_agree(counts, op),
+impl Held {
+    // Calls with as much of the buffers as the line says, and no more than there is.
+    pub(crate) fn run(&mut self, line: Operation, op: Operation) -> Left {
+        let input = floats_of(line);
+        let mut strobes = [of_bits(FILLING); SIX];
+        let mut output = [of_bits(FILLING); SIX];
+        let n = SIX.min((op.x % 0x1_0000) as usize);
+        let found = SIX.min((op.x / 0x1_0000 % 0x1_0000) as usize);
+        let places = SIX.min((op.x / 0x1_0000_0000) as usize);
+        let ran = call(
+            self.receiver,
+            &input[..n],
+            &mut strobes[..found],
+            &mut output[..places],
+        );
+        self.receiver = ran.receiver;
+        Left {
+            strobes: words_of(strobes),
+            output: words_of(output),
+            agrees: counts_agree(ran.counts, op),
+        }
     }
 }

@@ -7,19 +7,15 @@ ghost use Rattle.ieee.specs.Notation.{zero₀};
 ghost use Rattle.little_endian.specs.Bytes.{little_endian, bytes_of};
 ghost use Rattle.little_endian.specs.Samples.{floats, double_at};
 
-use values::least;
-
 // The number that the first eight bytes spell; where there are fewer, those that are missing are zero.
 pub fn little_endian(bytes: &[u8]) -> u64
     ensures value { result ≡ little_endian (take 8 bytes.now) }
     ensures below { result < 256 ^ length bytes.now }
 {
-    let mut i = least(bytes.len(), 8);
+    let end = bytes.len().min(8);
     let mut value: u64 = 0;
-    while i > 0 {
-        i -= 1;
-        let b = bytes[i] as u64;
-        value = b + 0x100 * value;
+    for b in bytes[..end].iter().rev() {
+        value = *b as u64 + 0x100 * value;
     }
     value
 }
@@ -28,8 +24,8 @@ pub fn little_endian(bytes: &[u8]) -> u64
 pub fn f64_at(bytes: &[u8], from: usize) -> f64
     ensures { result ≡ double_at bytes.now from }
 {
-    let at = least(from, bytes.len());
-    patterns::f64_of(little_endian(&bytes[at..]))
+    let at = from.min(bytes.len());
+    patterns::of_bits(little_endian(&bytes[at..]))
 }
 
 // The f32 number k of the bytes.
@@ -39,7 +35,7 @@ pub(crate) fn f32_at(bytes: &[u8], k: usize) -> f32
 {
     let from = 4 * k;
     let to = from + 4;
-    patterns::f32_of(little_endian(&bytes[from..to]) as u32)
+    patterns::of_bits(little_endian(&bytes[from..to]) as u32)
 }
 
 // Stores x as the f32 number k of the bytes.
@@ -47,9 +43,6 @@ pub(crate) fn store_f32(bytes: &mut [u8], k: usize, x: f32)
     requires { k < length bytes.old / 4 }
     ensures { bytes.new ≡ sets bytes.old (4 * k) (bytes_of 4 (to_bits binary32 x)) }
 {
-    let bits = patterns::f32_bits(x);
-    bytes[4 * k] = (bits % 0x100) as u8;
-    bytes[4 * k + 1] = (bits / 0x100 % 0x100) as u8;
-    bytes[4 * k + 2] = (bits / 0x1_0000 % 0x100) as u8;
-    bytes[4 * k + 3] = (bits / 0x100_0000) as u8;
+    let at = 4 * k;
+    bytes[at..at + 4].copy_from_slice(&patterns::bits_of(x).to_le_bytes());
 }

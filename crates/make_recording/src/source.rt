@@ -52,29 +52,30 @@ fn point(state: u32) -> C32
     }
 }
 
-// The first symbol comes out of silence.
-pub(crate) fn start() -> Source
-    ensures { result ≡ started }
-{
-    let state = step(SEED);
-    Source {
-        state: state,
-        from: C32 { re: 0.0, im: 0.0 },
-        to: point(state),
-        phase: START_PHASE,
+impl Source {
+    // The first symbol comes out of silence.
+    pub fn start() -> Source
+        ensures { result ≡ started }
+    {
+        let state = step(SEED);
+        Source {
+            state: state,
+            from: C32 { re: 0.0, im: 0.0 },
+            to: point(state),
+            phase: START_PHASE,
+        }
     }
-}
 
-// A symbol on.
-pub(crate) fn next(s: Source) -> Source
-    ensures { result ≡ next_of s }
-{
-    let state = step(s.state);
-    let from = s.to;
-    Source {
-        state: state,
-        from: from,
-        to: point(state),
-        phase: std::num::wrapping_add_u32(s.phase, 4 * PHASE_STEP),
+    // A symbol on.
+    pub fn next(self) -> Source
+        ensures { result ≡ next_of self }
+    {
+        let state = step(self.state);
+        Source {
+            state: state,
+            from: self.to,
+            to: point(state),
+            phase: self.phase.wrapping_add(4 * PHASE_STEP),
+        }
     }
 }

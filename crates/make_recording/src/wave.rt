@@ -39,7 +39,7 @@ fn sample(table: &[f32; 4097], s: Source, j: u32) -> C32
         re: on_the_way(s.from.re, s.to.re, way.c),
         im: on_the_way(s.from.im, s.to.im, way.c),
     };
-    let phase = std::num::wrapping_add_u32(s.phase, j * PHASE_STEP);
+    let phase = s.phase.wrapping_add(j * PHASE_STEP);
     turned_by(x, mix::interp_f32_pair(table, phase))
 }
 

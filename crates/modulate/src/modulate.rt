@@ -20,14 +20,14 @@ pub(crate) const WRAP: u64 = 0x1_0000_0000;
 fn up(n: f64, v: f64) -> u32
     ensures { result ≡ (if lt v n then 1 else 0) }
 {
-    if n > v { 1 } else { 0 }
+    (n > v) as u32
 }
 
 // `phase_step` of v = x * k + 0.5 for |v| < 2^51. v + MAGIC rounds to a whole number beside v, whose
 // low 32 bits are the wrapped step; where that rounded up, one is taken off.
 fn phase_step_fast(v: f64) -> u32
-    requires t { T (lt (neg magic_range) v) }
-    requires t_2 { T (lt v magic_range) }
+    requires lower_bound { T (lt (neg magic_range) v) }
+    requires upper_bound { T (lt v magic_range) }
     ensures { result ≡ stepped v }
 {
     let m = v + MAGIC;

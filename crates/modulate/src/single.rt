@@ -35,28 +35,21 @@ fn moved(bits: u32, m: u64) -> u64
     if bits < SIGN { ORIGIN + m } else { ORIGIN - m }
 }
 
-// k, or 63 if that is smaller.
-fn at_most_63(k: u32) -> u32
-    ensures { result ≡ min k 63 }
-{
-    if k < 63 { k } else { 63 }
-}
-
 // The phase step of a v with |v| < 2^14, from its bits. v is ± m 2^(exp - 150) with a significand m of 24
 // bits, so v 2^33 is S / 2^(156 - exp) with S = ± m 2^39. With q = floor(v 2^33), the original's arithmetic
 // shift of S, the step is floor((q + 1) / 2). Here s is S + 2^63, which has no sign, and what the shift makes
 // of 2^63 is taken off again, but for 1: that is what it makes of 2^63 - 1. 2^48 keeps the difference above 0
 // and is 0 in the low 33 bits. Below exp = 94 the step is 0, and a shift by 63 gives it.
 fn phase_step_bits(v: f32) -> u32
-    requires t { T (lt (neg bits_range) v) }
-    requires t_2 { T (lt v bits_range) }
+    requires lower_bound { T (lt (neg bits_range) v) }
+    requires upper_bound { T (lt v bits_range) }
     ensures { result ≡ phase_step v }
 {
     let bits = f32::to_bits(v);
     let exp = bits / LEADING % 0x100;
     let m = (bits % LEADING + LEADING) as u64 * SCALE;
     let s = moved(bits, m);
-    let k = at_most_63(156 - exp);
+    let k = (156 - exp).min(63);
     let q1 = (s >> k) + (ROOM - (BELOW_ORIGIN >> k));
     (q1 / 2 % WRAP) as u32
 }

@@ -1,30 +1,44 @@
 // Flushing to zero, from num.rs.
-ghost use Rattle.std.specs.Prelude.{◌≡◌};
+ghost use Rattle.std.specs.Prelude.{◌≡◌, refl};
+ghost use Rattle.numbers.specs.Denormal.{tiny, flushed};
 ghost use Rattle.std.specs.Float.{binary32, binary64};
-ghost use Rattle.numbers.specs.Denormal.{flushed};
+
+use patterns::Binary;
 
 // The threshold, nearest in each width.
 pub const TINY_F32: f32 = 1e-30;
 
-const TINY_F64: f64 = 1e-30;
+// A float that can be flushed: its width has a threshold.
+pub trait Flushed: Binary {
+    const TINY: Self;
 
-// N3: returns 0.0 when |x| < 1e-30 (NaN is unchanged), otherwise x.
-pub fn flush_denormal(x: f32) -> f32
-    ensures { result ≡ flushed binary32 x }
-{
-    if x > -TINY_F32 && x < TINY_F32 {
-        0.0
-    } else {
-        x
-    }
+    ghost TINY: { Self };
+
+    ghost tiny_is: { Self.value TINY ≡ tiny Self.format };
 }
 
-// N3: f64 variant of flush_denormal.
-pub fn flush_denormal_f64(x: f64) -> f64
-    ensures { result ≡ flushed binary64 x }
+impl Flushed for f32 {
+    const TINY: f32 = TINY_F32;
+
+    ghost TINY = { tiny binary32 };
+
+    ghost tiny_is = { refl };
+}
+
+impl Flushed for f64 {
+    const TINY: f64 = 1e-30;
+
+    ghost TINY = { tiny binary64 };
+
+    ghost tiny_is = { refl };
+}
+
+// N3: returns 0.0 when |x| < 1e-30 (NaN is unchanged), otherwise x. By `<` alone, as limit.
+pub fn flush_denormal<T: Flushed>(x: T) -> T
+    ensures { T.value result ≡ flushed T.format (T.value x) }
 {
-    if x > -TINY_F64 && x < TINY_F64 {
-        0.0
+    if -T::TINY < x && x < T::TINY {
+        T::ZERO
     } else {
         x
     }

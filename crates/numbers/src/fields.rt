@@ -1,5 +1,6 @@
 // The fields of a float's bit pattern, from the top: the sign, the exponent's field, and the digits
-// behind a leading one that is left out.
+// behind a leading one that is left out. Both widths stand side by side: `narrow` and `widen` read the one
+// and write the other.
 
 // The sign's bit.
 pub(crate) const SIGN_F32: u64 = 0x8000_0000;

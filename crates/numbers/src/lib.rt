@@ -10,9 +10,9 @@ mod signs;
 mod whole;
 mod widening;
 
-pub use denormal::{TINY_F32, flush_denormal, flush_denormal_f64};
+pub use denormal::{Flushed, TINY_F32, flush_denormal};
 pub use narrowing::narrow;
-pub use range::{is_finite_f32, is_finite_f64, limit_f32, limit_f64};
+pub use range::{is_finite, limit};
 pub use signs::sign;
 pub use whole::floor;
 pub use widening::widen;

@@ -1,4 +1,5 @@
-// Narrowing an f64 to an f32 by bits, which the original writes `as f32`.
+// Narrowing an f64 to an f32 by bits, which the original writes `as f32`. Not by std's conversion: that it is
+// done place by place is asked for (F10).
 ghost use Rattle.std.specs.Prelude.{◌≡◌, cond, ◌+◌, ◌*◌, ◌^◌, ◌<◌, ◌≤◌};
 ghost use Rattle.std.specs.Float.{binary32, binary64};
 ghost use Rattle.std.specs.Float.Ieee.{of_bits};

@@ -2,7 +2,7 @@
 ghost use Rattle.std.specs.Prelude.{◌≡◌};
 ghost use Rattle.numbers.specs.Sign.{sign_of};
 
-// N8: 1 above zero, -1 below, 0 for zero and NaN.
+// N8: 1 above zero, -1 below, 0 for zero and NaN. Not `signum`, which gives 1 or -1 for a zero.
 pub fn sign(x: f32) -> f32
     ensures { result ≡ sign_of x }
 {

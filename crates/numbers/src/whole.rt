@@ -8,7 +8,7 @@ ghost use Rattle.numbers.specs.Whole.{floored, far, Beside};
 const FAR: f64 = 4_503_599_627_370_496.0;
 
 // 1 where m lies above x, else 0. Whether it does is not predictable, so that no branch depends on it:
-// this is a choice between two numbers.
+// this is a choice between two numbers. modulate's `up` is the same test as a u32, by a cast.
 fn above(m: f64, x: f64) -> f64
     ensures { result ≡ cond (lt x m) one₀ zero₀ }
 {
@@ -18,8 +18,8 @@ fn above(m: f64, x: f64) -> f64
 // The floor of x, for |x| < 2^52, from one of the two whole numbers next to x, or x itself if it is
 // whole.
 fn mended(m: f64, x: f64) -> f64
-    requires t { T (lt (neg far) x) }
-    requires t_2 { T (lt x far) }
+    requires lower_bound { T (lt (neg far) x) }
+    requires upper_bound { T (lt x far) }
     requires beside { Beside x m }
     ensures { result ≡ floored x }
 {

@@ -1,4 +1,5 @@
-// Widening an f32 to an f64 by bits, which the original writes `f64::from`.
+// Widening an f32 to an f64 by bits, which the original writes `f64::from`. Not by std's
+// conversion: both ways go by bits (docs/DIFFERENCES.md).
 ghost use Rattle.std.specs.Prelude.{◌≡◌, ◌*◌, ◌^◌, ◌<◌, ◌≤◌};
 ghost use Rattle.std.specs.Float.{binary32, binary64};
 ghost use Rattle.std.specs.Float.Ieee.{of_bits};

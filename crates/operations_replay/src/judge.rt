@@ -1,6 +1,7 @@
 // Playing one operation, and comparing what comes out with the recorded answer.
 use answers::{HIGH, Operation};
 use mix::Pair;
+use patterns::{Binary, Pattern};
 
 // Whether the computed answer agrees with the recorded one. If not, the computed one's word.
 #[derive(Clone, Copy)]
@@ -10,66 +11,62 @@ pub(crate) enum Verdict {
     Malformed,
 }
 
-// The low half of the word.
-fn low(word: u64) -> u32 {
+// The low half of the word, as a phase.
+fn phase(word: u64) -> u32 {
     (word % HIGH) as u32
 }
 
-// The f32 whose bits are the low half of the word.
-fn single(word: u64) -> f32 {
-    answers::f32_of(low(word))
+// A float that a line records.
+trait Recorded: Binary {
+    // The one that the word stands for, if the word is not too wide for one.
+    fn recorded(word: u64) -> Option<Self>;
+}
+
+impl Recorded for f32 {
+    fn recorded(word: u64) -> Option<f32> {
+        if word < HIGH {
+            Some(answers::low(word))
+        } else {
+            None
+        }
+    }
+}
+
+impl Recorded for f64 {
+    fn recorded(word: u64) -> Option<f64> {
+        Some(answers::of_bits(word))
+    }
 }
 
 // Bit for bit, with NaN for NaN.
-fn exact_f32(computed: f32, answer: u64) -> Verdict {
-    if answer < HIGH && answers::same_f32(computed, single(answer)) {
+fn exact<T: Recorded>(computed: T, answer: u64) -> Verdict {
+    if T::recorded(answer).is_some_and(|recorded| answers::same(computed, recorded)) {
         return Verdict::Agrees;
     }
-    Verdict::Differs(answers::f32_bits(computed) as u64)
+    Verdict::Differs(answers::bits_of(computed).word())
 }
 
-// f64 variant of exact_f32.
-fn exact_f64(computed: f64, answer: u64) -> Verdict {
-    if answers::same_f64(computed, answers::f64_of(answer)) {
-        return Verdict::Agrees;
-    }
-    Verdict::Differs(answers::f64_bits(computed))
-}
-
-// Each of the two as exact_f32 compares it: the cosine with the high half of the answer, the sine
+// Each of the two as exact compares it: the cosine with the high half of the answer, the sine
 // with the low half.
 fn exact_pair(computed: Pair, answer: u64) -> Verdict {
-    if answers::same_f32(computed.c, single(answer / HIGH))
-        && answers::same_f32(computed.s, single(answer))
+    if answers::same(computed.c, answers::high(answer))
+        && answers::same(computed.s, answers::low(answer))
     {
         return Verdict::Agrees;
     }
-    let c = answers::f32_bits(computed.c) as u64;
-    let s = answers::f32_bits(computed.s) as u64;
-    Verdict::Differs(c * HIGH + s)
+    Verdict::Differs(answers::word(computed.c, computed.s))
 }
 
-// As a number: like exact_f32, and a zero's sign does not matter.
-fn number_f32(computed: f32, answer: u64) -> Verdict {
-    if answer < HIGH && answers::alike_f32(computed, single(answer)) {
+// As a number: like exact, and a zero's sign does not matter.
+fn number<T: Recorded>(computed: T, answer: u64) -> Verdict {
+    if T::recorded(answer).is_some_and(|recorded| answers::alike(computed, recorded)) {
         return Verdict::Agrees;
     }
-    Verdict::Differs(answers::f32_bits(computed) as u64)
-}
-
-// f64 variant of number_f32.
-fn number_f64(computed: f64, answer: u64) -> Verdict {
-    if answers::alike_f64(computed, answers::f64_of(answer)) {
-        return Verdict::Agrees;
-    }
-    Verdict::Differs(answers::f64_bits(computed))
+    Verdict::Differs(answers::bits_of(computed).word())
 }
 
 fn truth(computed: bool, answer: u64) -> Verdict {
-    let mut word = 0;
-    if computed {
-        word = 1;
-    }
+    let word = computed as u64;
     if word == answer {
         return Verdict::Agrees;
     }
@@ -86,36 +83,38 @@ fn step(computed: u32, answer: u64) -> Verdict {
 
 // Plays an operation whose arguments are f32 or a phase: words below 2^32.
 fn judge_narrow(table: &[f32; 4097], op: Operation) -> Verdict {
-    let letter = op.letter;
-    match letter {
-        b'w' => exact_f64(numbers::widen(single(op.x)), op.answer),
-        b's' => exact_f32(numbers::flush_denormal(single(op.x)), op.answer),
-        b'l' => number_f32(numbers::limit_f32(single(op.x), single(op.y)), op.answer),
-        b'i' => truth(numbers::is_finite_f32(single(op.x)), op.answer),
-        b'p' => exact_pair(mix::interp_f32_pair(table, low(op.x)), op.answer),
-        b't' => step(modulate::phase_step_f32(single(op.x)), op.answer),
+    match op.letter {
+        b'w' => exact(numbers::widen(answers::low(op.x)), op.answer),
+        b's' => exact(numbers::flush_denormal(answers::low(op.x)), op.answer),
+        b'l' => number(
+            numbers::limit(answers::low(op.x), answers::low(op.y)),
+            op.answer,
+        ),
+        b'i' => truth(numbers::is_finite(answers::low(op.x)), op.answer),
+        b'p' => exact_pair(mix::interp_f32_pair(table, phase(op.x)), op.answer),
+        b't' => step(modulate::phase_step_f32(answers::low(op.x)), op.answer),
         _ => Verdict::Malformed,
     }
 }
 
+// Kept as a match: the letters are the file's, and each function has other types.
 // Plays the operation. A letter that names no function, and an argument too wide for an f32 or a
 // phase, are malformed.
 pub(crate) fn judge(table: &[f32; 4097], op: Operation) -> Verdict {
-    let letter = op.letter;
-    match letter {
-        b'f' => exact_f64(numbers::floor(answers::f64_of(op.x)), op.answer),
-        b'n' => exact_f32(numbers::narrow(answers::f64_of(op.x)), op.answer),
-        b'd' => exact_f64(
-            numbers::flush_denormal_f64(answers::f64_of(op.x)),
+    match op.letter {
+        b'f' => exact(numbers::floor(answers::of_bits(op.x)), op.answer),
+        b'n' => exact(numbers::narrow(answers::of_bits(op.x)), op.answer),
+        b'd' => exact(
+            numbers::flush_denormal(answers::of_bits::<f64>(op.x)),
             op.answer,
         ),
-        b'm' => number_f64(
-            numbers::limit_f64(answers::f64_of(op.x), answers::f64_of(op.y)),
+        b'm' => number(
+            numbers::limit(answers::of_bits::<f64>(op.x), answers::of_bits(op.y)),
             op.answer,
         ),
-        b'j' => truth(numbers::is_finite_f64(answers::f64_of(op.x)), op.answer),
+        b'j' => truth(numbers::is_finite(answers::of_bits::<f64>(op.x)), op.answer),
         b'u' => step(
-            modulate::phase_step(answers::f64_of(op.x), answers::f64_of(op.y)),
+            modulate::phase_step(answers::of_bits(op.x), answers::of_bits(op.y)),
             op.answer,
         ),
         _ => {

@@ -13,72 +13,52 @@ mod judge;
 
 ghost use Rattle.replay.specs.Tally.{Tallied};
 
-use answers::{Operation, Reading};
+use answers::Operation;
 use judge::Verdict;
-use replay::{LINES, tally};
-use std::io::Read;
+use replay::Player;
+use replay::tally::Tally;
 
-// Plays an operation, and counts it.
-fn play(rt: &impl Print, table: &[f32; 4097], op: Operation, line: &[u8], tally: &mut [u64; 16])
-    ensures { Tallied 1 tally.old tally.new }
-{
-    match judge::judge(table, op) {
-        Verdict::Agrees => counts::agrees(tally, op.letter),
-        Verdict::Differs(computed) => counts::differs(rt, tally, op.letter, line, computed),
-        Verdict::Malformed => counts::malformed(rt, tally, line),
+// The operations, over the table that the oscillator reads.
+#[derive(Clone, Copy)]
+struct Operations<'a> {
+    table: &'a [f32; 4097],
+}
+
+impl<'a> Player for Operations<'a> {
+    fn play(&mut self, rt: &impl Print, op: Operation, line: &[u8], tally: &mut Tally) {
+        match judge::judge(self.table, op) {
+            Verdict::Agrees => counts::agrees(tally, op.letter),
+            Verdict::Differs(computed) => counts::differs(rt, tally, op.letter, line, computed),
+            Verdict::Malformed => counts::malformed(rt, tally, line),
+        }
+    }
+
+    fn play_line(&mut self, rt: &impl Print, line: &[u8], tally: &mut Tally, damaged: &mut Tally) {
+        play_line(rt, self, line, tally, damaged);
     }
 }
 
-// Plays a line, and once more damaged, which must be counted as differing.
+// Plays a line, and once more damaged, which must be counted as differing. A malformed line is not damaged.
 fn play_line(
     rt: &impl Print,
-    table: &[f32; 4097],
+    operations: &mut Operations,
     line: &[u8],
-    tally: &mut [u64; 16],
-    damaged: &mut [u64; 16],
+    tally: &mut Tally,
+    damaged: &mut Tally,
 )
     ensures { Tallied 1 tally.old tally.new }
 {
-    let Reading::Asks(op) = answers::read_line(line) else {
+    let Some(op) = answers::read_line(line) else {
         counts::malformed(rt, tally, line);
         return;
     };
-    play(rt, table, op, line, tally);
-    let op = answers::damaged(op, tally::played(damaged));
-    play(rt, table, op, line, damaged);
-}
-
-// Plays line after line, up to the end of the input, and says how many. What is left there after the last
-// whole line counts as a line too.
-fn play_lines(
-    rt: &impl Print,
-    reader: &mut impl Read,
-    table: &[f32; 4097],
-    tally: &mut [u64; 16],
-    damaged: &mut [u64; 16],
-) -> u64
-    ensures { Tallied result tally.old tally.new }
-{
-    let mut count = 0;
-    while count < LINES {
-        let mut line = [0u8; 53];
-        let n = replay::read_full(reader, &mut line);
-        if n == 0 {
-            return count;
-        }
-        play_line(rt, table, &line[..n], tally, damaged);
-        count += 1;
-    }
-    count
+    operations.play(rt, op, line, tally);
+    let op = answers::damaged(op, damaged.played());
+    operations.play(rt, op, line, damaged);
 }
 
 // The table is taken once, and lent from here on.
 fn main(rt: HostRuntime) {
     let table = tables::cos_f32_table();
-    let mut reader = rt.reader();
-    let mut tally = [0; 16];
-    let mut damaged = tally::of_damaged();
-    let lines = play_lines(&rt, &mut reader, &table, &mut tally, &mut damaged);
-    tally::too_long(&rt, &mut tally, lines);
-    counts::show(&rt, &tally, &damaged);
+    replay::replay(&rt, Operations { table: &table }, &counts::KINDS);
 }

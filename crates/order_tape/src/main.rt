@@ -5,10 +5,10 @@
 #![tactic(auto)]
 
 mod command;
-mod report;
+mod error;
 
+use error::Error;
 use std::env::{Env, FillError};
-use std::io;
 use std::io::Read;
 use tape::{Desk, Step};
 use values::Refusal;
@@ -17,63 +17,38 @@ use values::Refusal;
 // no tape reaches that, not even one of nothing but resets.
 const COMMANDS: u64 = 0xffff_ffff_ffff_ffff;
 
-// A tape on which no whole command follows: it has ended, between two commands or inside one, or a read failed.
-fn end(rt: &impl Eprint, read: usize, failed: Option<io::Error>) {
-    if let Some(why) = failed {
-        report::not_read(rt, why);
-        return;
-    }
-    if read > 0 {
-        report::refused(rt, Refusal::Cut);
-    }
-}
-
 // Carries out command after command, up to the end of the tape or a refusal.
-fn play(rt: &(impl Print + Eprint), reader: &mut impl Read) {
+fn play(rt: &impl Print, reader: &mut impl Read) -> Result<(), Error> {
     let mut bytes = [0u8; command::LONGEST];
     let mut symbols = [0u8; command::SYMBOLS];
     let mut desk = Desk::Empty;
-    let mut left = COMMANDS;
-    while left > 0 {
-        let command = command::read(reader, desk, &mut bytes, &mut symbols);
-        let step = command.step;
-        match step {
+    for _ in 0..COMMANDS {
+        let command = command::read(reader, desk, &mut bytes, &mut symbols)?;
+        match command.step {
             Step::Done(carried) => {
-                let written = carried.written;
-                if let Err(why) = rt.write_all(&symbols[..written]) {
-                    report::not_written(rt, why);
-                    return;
-                }
+                rt.write_all(&symbols[..carried.written])
+                    .map_err(Error::Write)?;
                 desk = carried.desk;
             }
-            Step::Refused(stop) => {
-                let reason = stop.reason;
-                report::refused(rt, reason);
-                return;
-            }
-            Step::Wants(_) => {
-                end(rt, command.read, command.failed);
-                return;
-            }
+            Step::Refused(stop) => return Err(Error::from(stop.reason)),
+            // The tape has ended, between two commands or inside one.
+            Step::Wants(_) if command.read == 0 => return Ok(()),
+            Step::Wants(_) => return Err(Error::from(Refusal::Cut)),
         }
-        left -= 1;
     }
-    report::too_long(rt);
+    Err(Error::TooLong)
 }
 
-// Whether the program was given arguments, beside its own name.
-fn has_arguments(rt: &impl Env) -> bool {
+fn run(rt: &(impl Env + Input + Print)) -> Result<(), Error> {
+    // Argument 0 is the program's own name.
     match rt.arg(1, &mut [0u8; 1]) {
-        Err(FillError::NotPresent) => false,
-        _ => true,
+        Err(FillError::NotPresent) => play(rt, &mut rt.reader()),
+        _ => Err(Error::Arguments),
     }
 }
 
 fn main(rt: HostRuntime) {
-    let mut reader = rt.reader();
-    if has_arguments(&rt) {
-        report::arguments(&rt);
-    } else {
-        play(&rt, &mut reader);
+    if let Err(error) = run(&rt) {
+        error::tell(&rt, error);
     }
 }

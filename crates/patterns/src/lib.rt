@@ -1,6 +1,8 @@
-// Floats and their bit patterns, at both widths.
+// Floats of both formats, generic code's bound for them, and their bit patterns.
 #![tactic(auto)]
 
+mod binary;
 mod bits;
 
-pub use bits::{f32_bits, f32_of, f64_bits, f64_of};
+pub use binary::{Binary, Pattern};
+pub use bits::{bits_of, of_bits};

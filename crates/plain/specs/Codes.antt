@@ -1,14 +1,12 @@
 -- L4: the numbers that stand for the enums, in both directions; L14: which numbers do; L11: the one that stands for
 -- none. Definitions only.
-use Rattle.std.specs.Prelude.{ℕ, Bool, cond, eqb, ltb}
+use Rattle.std.specs.Prelude.{ℕ, Bool, cond, eqb, ltb, Some, None}
 use Rattle.values.specs.declared.sample.C32.{C32}
 use Rattle.timing.specs.declared.params.Ted.{Ted}
 use Rattle.timing.specs.declared.params.Ted.TheVariants.{Gardner, MuellerMuller}
 use Rattle.constellations.specs.declared.kinds.CostasConstellation.{CostasConstellation}
 use Rattle.constellations.specs.declared.kinds.CostasConstellation.TheVariants.{Bpsk, Qpsk, Psk8}
-use Rattle.symbol_numbers.specs.declared.symbol.SymbolNumber.{SymbolNumber}
-use Rattle.symbol_numbers.specs.declared.symbol.SymbolNumber.TheVariants.{Number, None}
-use Rattle.symbol_numbers.specs.Symbol.{symbol_of}
+use Rattle.symbol_numbers.specs.Symbol.{SymbolNumber, symbol_of}
 
 -- L14: a detector has this code
 abbrev pub detector_named : ℕ → Bool
@@ -41,5 +39,5 @@ symbol_under code y = cond (constellation_named code) (symbol_of (constellation_
 
 -- L11: a symbol's number stands for itself
 abbrev pub symbol_code : SymbolNumber → ℕ
-symbol_code (Number n) = n
+symbol_code (Some n) = n
 symbol_code None = 255

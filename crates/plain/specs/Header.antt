@@ -1,13 +1,11 @@
 -- L4, L11 and E1 to E11: the codes and numbers that bindings/c/train_receiver.h names, which a program in C has compiled
 -- into it. (The number of "too large", L13, is `too_large_number` of `plain_records`.) Definitions only.
-use Rattle.std.specs.Prelude.{◌≡◌}
+use Rattle.std.specs.Prelude.{◌≡◌, None, Ok}
 use Rattle.values.specs.declared.error.Refusal.TheVariants.{Pace, Width, Damping, Pull, Slope, Gains, Uneven, Odd, Undefined, Cut, Early}
 use Rattle.values.specs.declared.progress.Progress.{Progress}
-use Rattle.values.specs.declared.progress.Answer.TheVariants.{Done}
 use Rattle.values.specs.Refusal.{number_of}
 use Rattle.timing.specs.declared.params.Ted.TheVariants.{Gardner, MuellerMuller}
 use Rattle.constellations.specs.declared.kinds.CostasConstellation.TheVariants.{Bpsk, Qpsk, Psk8}
-use Rattle.symbol_numbers.specs.declared.symbol.SymbolNumber.TheVariants.{None}
 use Rattle.plain.specs.Codes.{detector_of, detector_code, constellation_of, constellation_code, symbol_code}
 use Rattle.values.specs.Counts.{counts_of}
 
@@ -27,7 +25,7 @@ pub record Header : Type 0 where
   -- TRR_NO_SYMBOL
   pub no_symbol : symbol_code None ≡ 255
   -- TRR_DONE, and the numbers of the refusals in the order of their table
-  pub done : (p : Progress) → (counts_of (Done p)).number ≡ 0
+  pub done : (p : Progress) → (counts_of (Ok p)).number ≡ 0
   pub pace : number_of Pace ≡ 1
   pub width : number_of Width ≡ 2
   pub damping : number_of Damping ≡ 3

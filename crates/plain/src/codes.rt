@@ -1,10 +1,11 @@
 // L4, L11 and L14: the numbers that stand for the enums, as bindings/c/train_receiver.h names them, and which
-// numbers do.
+// numbers do. They stay functions: a From between u32 and an enum can stand in the enum's crate alone, and the codes are
+// the C interface's.
 ghost use Rattle.std.specs.Prelude.{◌≡◌};
 ghost use Rattle.plain.specs.Codes.{detector_named, detector_of, detector_code, constellation_named, constellation_of, constellation_code, symbol_under, symbol_code};
 
 use constellations::CostasConstellation;
-use symbol_numbers::{SymbolNumber, symbol_number};
+use symbol_numbers::symbol_number;
 use timing::Ted;
 use values::C32;
 
@@ -84,21 +85,21 @@ pub fn constellation_code(constellation: CostasConstellation) -> u32
 }
 
 // L11, L14: what a symbol reads under the constellation of a code: none where no constellation has the code.
-pub fn symbol_under(code: u32, y: C32) -> SymbolNumber
+pub fn symbol_under(code: u32, y: C32) -> Option<usize>
     ensures { result ≡ symbol_under code y }
 {
     if !constellation_named(code) {
-        return SymbolNumber::None;
+        return None;
     }
     symbol_number(constellation(code), y)
 }
 
 // L11: the number of a symbol, or the code for none.
-pub fn symbol_code(number: SymbolNumber) -> usize
+pub fn symbol_code(number: Option<usize>) -> usize
     ensures { result ≡ symbol_code number }
 {
     match number {
-        SymbolNumber::Number(n) => n,
-        SymbolNumber::None => NO_SYMBOL,
+        Some(n) => n,
+        None => NO_SYMBOL,
     }
 }

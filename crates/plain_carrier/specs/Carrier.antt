@@ -1,10 +1,9 @@
 -- The carrier loop's state as a plain record. Definitions only.
-use Rattle.std.specs.Prelude.{ℕ, ◌<◌, false, List, Float}
+use Rattle.std.specs.Prelude.{ℕ, ◌<◌, false, List, Float, Ok, Err}
 use Rattle.ieee.specs.Notation.{zero₀}
 use Rattle.values.specs.Refusal.{number_of}
 use Rattle.carrier.specs.declared.state.CostasState.{CostasState}
-use Rattle.carrier.specs.declared.state.SetUp.{SetUp}
-use Rattle.carrier.specs.declared.state.SetUp.TheVariants.{Ready, Refused}
+use Rattle.carrier.specs.State.{SetUp}
 use Rattle.carrier.specs.State as carrier
 use Rattle.carrier.specs.Run.{Outcome}
 use Rattle.plain_carrier.specs.declared.Carrier.{Carrier}
@@ -30,8 +29,8 @@ none =
 
 -- L3: a set-up's answer
 abbrev pub set_up_of : SetUp → CarrierSetUp
-set_up_of (Ready s) = record { number = 0; state = record_of s }
-set_up_of (Refused n) = record { number = number_of n; state = none }
+set_up_of (Ok s) = record { number = 0; state = record_of s }
+set_up_of (Err n) = record { number = number_of n; state = none }
 
 -- a call's number, the record after it and what the output holds
 abbrev pub outcome_of : ℕ → Carrier → List Float → Outcome

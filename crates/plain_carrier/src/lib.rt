@@ -5,15 +5,16 @@
 
 ghost use Rattle.std.specs.Prelude.{◌≡◌};
 ghost use Rattle.carrier.specs.State.{SetUpGiven};
-ghost use Rattle.carrier.specs.Run.{called};
-ghost use Rattle.plain_carrier.specs.Carrier.{state_of, record_of, none, set_up_of, outcome_of, Given};
+ghost use Rattle.carrier.specs.Run.{replied, called};
+ghost use Rattle.plain_carrier.specs.Carrier.{state_of, record_of, set_up_of, outcome_of, Given};
 
-use carrier::{CostasState, Lock, Nco, Params, SetUp, Track};
+use carrier::{CostasState, Params, Track};
 use plain::{constellation, constellation_code};
+use values::Refusal;
 
-// The state as a plain record.
+// The state as a plain record. All zeros, by default, it stands for no state.
 #[repr(C)]
-#[derive(Clone, Copy)]
+#[derive(Clone, Copy, Default)]
 pub struct Carrier {
     // 0 BPSK, 1 QPSK, 2 8-PSK.
     pub constellation: u32,
@@ -22,7 +23,8 @@ pub struct Carrier {
 }
 
 // L3: the answer of a set-up: its number, and the state where the number is 0. Where it is not, there is no
-// state: the record is all zeros, and no call may be given it.
+// state: the record is all zeros, and no call may be given it. The number stands beside the state as the C
+// interface has them.
 #[repr(C)]
 #[derive(Clone, Copy)]
 pub struct CarrierSetUp {
@@ -30,100 +32,66 @@ pub struct CarrierSetUp {
     pub state: Carrier,
 }
 
-// The state that a record stands for.
-pub fn state_of(x: Carrier) -> CostasState
-    ensures { result ≡ state_of x }
-{
-    let p = x.params;
-    let t = x.track;
-    CostasState {
-        constellation: constellation(x.constellation),
-        params: p,
-        track: t,
+// L1: the state that a record stands for.
+impl From<Carrier> for CostasState {
+    ghost from_gives = { λ x s. s ≡ state_of x };
+
+    fn from(x: Carrier) -> CostasState {
+        CostasState {
+            constellation: constellation(x.constellation),
+            params: x.params,
+            track: x.track,
+        }
     }
 }
 
-// The record of a state.
-pub fn record_of(s: CostasState) -> Carrier
-    ensures { result ≡ record_of s }
-{
-    let c = s.constellation;
-    let p = s.params;
-    let t = s.track;
-    Carrier {
-        constellation: constellation_code(c),
-        params: p,
-        track: t,
+// L1: the record of a state.
+impl From<CostasState> for Carrier {
+    ghost from_gives = { λ s x. x ≡ record_of s };
+
+    fn from(s: CostasState) -> Carrier {
+        Carrier {
+            constellation: constellation_code(s.constellation),
+            params: s.params,
+            track: s.track,
+        }
     }
 }
 
-// What a refused set-up has in the place of a state.
-pub fn no_state() -> Carrier
-    ensures { result ≡ none }
-{
-    let p = Params {
-        loop_bw: 0.0,
-        damping: 0.0,
-        max_offset: 0.0,
-        kp: 0.0,
-        ki: 0.0,
-        max: 0.0,
-    };
-    let nco = Nco {
-        phase: 0,
-        freq: 0.0,
-    };
-    let lock = Lock {
-        level: 0.0,
-        locked: false,
-    };
-    let t = Track {
-        nco: nco,
-        lock: lock,
-    };
-    Carrier {
-        constellation: 0,
-        params: p,
-        track: t,
+// L3: the answer of a set-up as a plain record.
+impl From<Result<CostasState, Refusal>> for CarrierSetUp {
+    ghost from_gives = { λ answer z. (z ≡ set_up_of answer) × (SetUpGiven answer → z.number ≡ 0 → Given z.state) };
+
+    fn from(answer: Result<CostasState, Refusal>) -> CarrierSetUp {
+        match answer {
+            Ok(s) => CarrierSetUp {
+                number: 0,
+                state: s.into(),
+            },
+            Err(n) => CarrierSetUp {
+                number: n.number(),
+                state: Carrier::default(),
+            },
+        }
     }
 }
 
-// The answer of a set-up as a plain record.
-pub fn answer_of(answer: SetUp) -> CarrierSetUp
-    requires { SetUpGiven answer }
-    ensures outcome { result ≡ set_up_of answer }
-    ensures given { result.number ≡ 0 → Given result.state }
-{
-    match answer {
-        SetUp::Ready(s) => CarrierSetUp {
-            number: 0,
-            state: record_of(s),
-        },
-        SetUp::Refused(n) => CarrierSetUp {
-            number: n.number(),
-            state: no_state(),
-        },
-    }
-}
-
-// The number of a call, and the record after it.
+// The answer of a call, and the record after it.
 #[derive(Clone, Copy)]
 pub struct CarrierRan {
-    pub number: u32,
+    pub answer: Result<(), Refusal>,
     pub state: Carrier,
 }
 
 // One call, the record by value.
 pub fn run(x: Carrier, input: &[f32], output: &mut [f32]) -> CarrierRan
     requires { Given x }
-    ensures outcome { outcome_of result.number result.state output.new ≡ called (state_of x) input.now output.old }
+    ensures outcome { outcome_of (replied result.answer) result.state output.new ≡ called (state_of x) input.now output.old }
     ensures given { Given result.state }
 {
-    let ran = costas::run(state_of(x), input, output);
-    let answer = ran.answer;
-    let s = ran.state;
+    let ran = costas::run(x.into(), input, output);
     CarrierRan {
-        number: answer.number(),
-        state: record_of(s),
+        answer: ran.answer,
+        state: ran.state.into(),
     }
 }

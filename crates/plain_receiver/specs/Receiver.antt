@@ -1,23 +1,22 @@
 -- The receiver's set-up and calls, with the receiver as a plain record. Definitions only.
-use Rattle.std.specs.Prelude.{List, Float}
+use Rattle.std.specs.Prelude.{List, Float, Ok, Err}
 use Rattle.values.specs.Refusal.{number_of}
 use Rattle.receiver.specs.Record as declaredReceiver
-use Rattle.receiver.specs.declared.record.TimingValues as declaredValues
-use Rattle.receiver.specs.declared.record.SetUp.{SetUp}
-use Rattle.receiver.specs.declared.record.SetUp.TheVariants.{Ready, Refused}
+use Rattle.timing.specs.declared.params.TimingValues as declaredValues
+use Rattle.receiver.specs.Record.{SetUp}
 use Rattle.sample_calls.specs.Call.{Outcome}
 use Rattle.values.specs.declared.counts.Counts.{Counts}
 use Rattle.plain_timing.specs.declared.params.TimingValues.{TimingValues}
 use Rattle.plain_receiver.specs.declared.ReceiverSetUp.{ReceiverSetUp}
 use Rattle.plain_records.specs.declared.record.Receiver64.{Receiver64}
 use Rattle.plain_records.specs.Records as records
-use Rattle.plain.specs.Codes.{detector_of}
+use Rattle.plain_timing.specs.Params as params
 use Rattle.plain_timing.specs.Complex as timing
 use Rattle.plain_carrier.specs.Carrier as carrier
 
 -- the values that a record stands for
 abbrev pub values_of : TimingValues → declaredValues.TimingValues
-values_of v = record { sps = v.sps; ted = detector_of v.ted; loop_bw = v.loop_bw; damping = v.damping; max_deviation = v.max_deviation; ted_gain = v.ted_gain }
+values_of v = params.values_of v
 
 -- R2, R18: the receiver's record is the one whose count has 64 bits; what it stands for, and which is given (A9)
 abbrev pub Receiver : Type 0
@@ -38,8 +37,8 @@ none = record { timing = timing.none; carrier = carrier.none; count = 0 }
 
 -- L3: a set-up's answer
 abbrev pub set_up_of : SetUp → ReceiverSetUp
-set_up_of (Ready r) = record { number = 0; receiver = record_of r }
-set_up_of (Refused n) = record { number = number_of n; receiver = none }
+set_up_of (Ok r) = record { number = 0; receiver = record_of r }
+set_up_of (Err n) = record { number = number_of n; receiver = none }
 
 -- a call's answer, the record after it and what the lent buffers hold
 abbrev pub outcome_of : Counts → Receiver → List Float → List Float → Outcome

@@ -1,10 +1,7 @@
 -- The record whose count has 32 bits as a plain record, and how one record becomes the other. Definitions only.
-use Rattle.std.specs.Prelude.{ℕ, ◌<◌, cond, eqb, ltb}
-use Rattle.complex_sync.specs.Views.{state_of}
-use Rattle.receiver_records.specs.declared.record.Receiver32 as declaredReceiver
-use Rattle.receiver_records.specs.declared.convert.Narrowed.{Narrowed}
-use Rattle.receiver_records.specs.declared.convert.Narrowed.TheVariants.{Fits, TooLarge}
-use Rattle.receiver_records.specs.Records.{largest32}
+use Rattle.std.specs.Prelude.{ℕ, ◌<◌, cond, eqb, ltb, Result, Ok, Err}
+use Rattle.receiver_records.specs.declared.convert.TooLarge.{TooLarge}
+use Rattle.receiver_records.specs.Records.{Narrowed, largest32}
 use Rattle.receiver_records.specs.Records as records
 use Rattle.plain_timing.specs.Complex as timing
 use Rattle.plain_carrier.specs.Carrier as carrier
@@ -13,8 +10,8 @@ use Rattle.plain_records.specs.declared.record.Receiver32.{Receiver32}
 use Rattle.plain_records.specs.declared.convert.ReceiverNarrowed.{ReceiverNarrowed}
 
 -- L1: the receiver that a record stands for
-abbrev pub receiver32_of : Receiver32 → declaredReceiver.Receiver32
-receiver32_of x = record { timing = state_of (timing.sync_of x.timing); carrier = carrier.state_of x.carrier; count = x.count }
+abbrev pub receiver32_of : Receiver32 → records.Receiver32
+receiver32_of x = record { timing = timing.sync_of x.timing; carrier = carrier.state_of x.carrier; count = x.count }
 
 -- A9: which records are given
 pub record Given32 (x : Receiver32) : Type 0 where
@@ -38,6 +35,11 @@ too_large_number = 100
 unfoldable pub narrowed : Receiver64 → ReceiverNarrowed
 narrowed x = cond (ltb largest32 x.count) (record { number = too_large_number; receiver = none32 }) (record { number = 0; receiver = record { timing = x.timing; carrier = x.carrier; count = x.count } })
 
+-- L13: what goes out of an answer: the record and 0, or that number
+abbrev pub answered : Result Receiver32 TooLarge → ReceiverNarrowed
+answered (Ok x) = record { number = 0; receiver = x }
+answered (Err e) = record { number = too_large_number; receiver = none32 }
+
 -- what an answer stands for: the record where the number is 0
 abbrev pub answer_of : ReceiverNarrowed → Narrowed
-answer_of z = cond (eqb z.number 0) (Fits (receiver32_of z.receiver)) TooLarge
+answer_of z = cond (eqb z.number 0) (Ok (receiver32_of z.receiver)) (Err (record {}))

@@ -1,17 +1,16 @@
 // The converter, over plain records: every field is carried over as it is.
 ghost use Rattle.std.specs.Prelude.{◌≡◌};
 ghost use Rattle.plain_records.specs.Records.{Given64};
-ghost use Rattle.plain_records.specs.Convert.{widened, none32, narrowed, Given32};
+ghost use Rattle.plain_records.specs.Convert.{widened, narrowed, answered, Given32};
 
 use crate::record::{Receiver32, Receiver64};
-use plain_timing::complex;
-use receiver_records::LARGEST_32;
+use receiver_records::TooLarge;
 
 // L13: the number of "too large", which is none of a refusal's.
 const TOO_LARGE: u32 = 100;
 
 // L13: the answer of a conversion down: 0 and the record, or the number of "too large". Then there is no record: it is
-// all zeros, and no call may be given it.
+// all zeros, and no call may be given it. The number stands beside the record as the C interface has them.
 #[repr(C)]
 #[derive(Clone, Copy)]
 pub struct ReceiverNarrowed {
@@ -20,50 +19,57 @@ pub struct ReceiverNarrowed {
 }
 
 // L12: up. Every record converts (R20).
-pub fn widen(old: Receiver32) -> Receiver64
-    ensures state { result ≡ widened old }
-    ensures given { Given32 old → Given64 result }
-{
-    let timing = old.timing;
-    let carrier = old.carrier;
-    Receiver64 {
-        timing: timing,
-        carrier: carrier,
-        count: old.count as u64,
-    }
-}
+impl From<Receiver32> for Receiver64 {
+    ghost from_gives = { λ old x. x ≡ widened old };
 
-// What a record that is too large gives in the place of one.
-fn no_receiver_32() -> Receiver32
-    ensures { result ≡ none32 }
-{
-    Receiver32 {
-        timing: complex::no_state(),
-        carrier: plain_carrier::no_state(),
-        count: 0,
+    fn from(old: Receiver32) -> Receiver64 {
+        Receiver64 {
+            timing: old.timing,
+            carrier: old.carrier,
+            count: u64::from(old.count),
+        }
     }
 }
 
 // L13: down, unless the count does not fit into 32 bits (R21).
+impl TryFrom<Receiver64> for Receiver32 {
+    type Error = TooLarge;
+
+    ghost try_from_gives = { λ x answer. answered answer ≡ narrowed x };
+
+    fn try_from(x: Receiver64) -> Result<Receiver32, TooLarge> {
+        match u32::try_from(x.count) {
+            Ok(count) => Ok(Receiver32 {
+                timing: x.timing,
+                carrier: x.carrier,
+                count: count,
+            }),
+            Err(_) => Err(TooLarge),
+        }
+    }
+}
+
+// L12: up, by its name in the specification.
+pub fn widen(old: Receiver32) -> Receiver64
+    ensures state { result ≡ widened old }
+    ensures given { Given32 old → Given64 result }
+{
+    old.into()
+}
+
+// L13: down, by its name in the specification, with the number that goes to C.
 pub fn narrow(x: Receiver64) -> ReceiverNarrowed
     ensures outcome { result ≡ narrowed x }
     ensures given { Given64 x → result.number ≡ 0 → Given32 result.receiver }
 {
-    if x.count > LARGEST_32 {
-        return ReceiverNarrowed {
+    match Receiver32::try_from(x) {
+        Ok(old) => ReceiverNarrowed {
+            number: 0,
+            receiver: old,
+        },
+        Err(TooLarge) => ReceiverNarrowed {
             number: TOO_LARGE,
-            receiver: no_receiver_32(),
-        };
-    }
-    let timing = x.timing;
-    let carrier = x.carrier;
-    let old = Receiver32 {
-        timing: timing,
-        carrier: carrier,
-        count: x.count as u32,
-    };
-    ReceiverNarrowed {
-        number: 0,
-        receiver: old,
+            receiver: Receiver32::default(),
+        },
     }
 }

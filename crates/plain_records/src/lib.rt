@@ -6,4 +6,4 @@ mod convert;
 mod record;
 
 pub use convert::{ReceiverNarrowed, narrow, widen};
-pub use record::{Receiver32, Receiver64, receiver_of, record_of};
+pub use record::{Receiver32, Receiver64};

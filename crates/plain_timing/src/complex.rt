@@ -1,25 +1,48 @@
 // The state of symbol timing recovery of complex samples, real part first in slices of f32.
+// The records and what makes them are twins of `real`: the C interface takes no type parameter.
 ghost use Rattle.std.specs.Prelude.{◌≡◌};
 ghost use Rattle.timing.specs.Run.{OpeningGiven, called_complex};
-ghost use Rattle.complex_sync.specs.Views.{sync, opening};
 ghost use Rattle.plain_timing.specs.Complex.{sync_of, record_of, none, set_up_of, outcome_of, Given};
 
-use crate::params::{TimingParams, params_of, params_record};
-use complex_sync::{Hist, SymbolSyncState, Track};
-use timing::Clock;
-use values::{C32, Counts, counts_of};
+use crate::params::TimingParams;
+use crate::zeros::zeros;
+use complex_sync::SymbolSyncState;
+use timing::{Clock, Hist, Track};
+use values::{C32, Counts, Refusal};
+
+// T5: the last three samples, oldest first.
+#[repr(C)]
+#[derive(Clone, Copy)]
+pub struct ComplexHist {
+    pub a: C32,
+    pub b: C32,
+    pub c: C32,
+}
+
+// T5: what a run changes while it loops.
+#[repr(C)]
+#[derive(Clone, Copy)]
+pub struct ComplexTrack {
+    pub clock: Clock,
+    pub y_prev: C32,
+    pub d_prev: C32,
+    pub mid: C32,
+    pub mid_ready: bool,
+    pub started: bool,
+}
 
 // The state as a plain record.
 #[repr(C)]
 #[derive(Clone, Copy)]
 pub struct ComplexTiming {
     pub params: TimingParams,
-    pub hist: Hist,
-    pub track: Track,
+    pub hist: ComplexHist,
+    pub track: ComplexTrack,
 }
 
 // L3: the answer of a set-up: its number, and the state where the number is 0. Where it is not, there is no
-// state: the record is all zeros, and no call may be given it.
+// state: the record is all zeros, and no call may be given it. The number stands beside the state as the C
+// interface has them.
 #[repr(C)]
 #[derive(Clone, Copy)]
 pub struct ComplexSetUp {
@@ -27,80 +50,82 @@ pub struct ComplexSetUp {
     pub state: ComplexTiming,
 }
 
-// The state that a record stands for.
-pub fn state_of(x: ComplexTiming) -> SymbolSyncState
-    ensures { sync result ≡ sync_of x }
-{
-    let p = x.params;
-    let h = x.hist;
-    let t = x.track;
-    SymbolSyncState {
-        params: params_of(p),
-        hist: h,
-        track: t,
+// L1: the state that a record stands for.
+impl From<ComplexTiming> for SymbolSyncState {
+    ghost from_gives = { λ x s. s ≡ sync_of x };
+
+    fn from(x: ComplexTiming) -> SymbolSyncState {
+        let h = x.hist;
+        let t = x.track;
+        SymbolSyncState {
+            params: x.params.into(),
+            hist: Hist {
+                a: h.a,
+                b: h.b,
+                c: h.c,
+            },
+            track: Track {
+                clock: t.clock,
+                y_prev: t.y_prev,
+                d_prev: t.d_prev,
+                mid: t.mid,
+                mid_ready: t.mid_ready,
+                started: t.started,
+            },
+        }
     }
 }
 
-// The record of a state.
-pub fn record_of(s: SymbolSyncState) -> ComplexTiming
-    ensures { result ≡ record_of (sync s) }
-{
-    let p = s.params;
-    let h = s.hist;
-    let t = s.track;
-    ComplexTiming {
-        params: params_record(p),
-        hist: h,
-        track: t,
+// L1: the record of a state.
+impl From<SymbolSyncState> for ComplexTiming {
+    ghost from_gives = { λ s x. x ≡ record_of s };
+
+    fn from(s: SymbolSyncState) -> ComplexTiming {
+        let h = s.hist;
+        let t = s.track;
+        ComplexTiming {
+            params: s.params.into(),
+            hist: ComplexHist {
+                a: h.a,
+                b: h.b,
+                c: h.c,
+            },
+            track: ComplexTrack {
+                clock: t.clock,
+                y_prev: t.y_prev,
+                d_prev: t.d_prev,
+                mid: t.mid,
+                mid_ready: t.mid_ready,
+                started: t.started,
+            },
+        }
     }
 }
 
-// What a refused set-up has in the place of a state.
-pub fn no_state() -> ComplexTiming
-    ensures { result ≡ none }
-{
-    let zero = C32 { re: 0.0, im: 0.0 };
-    let h = Hist {
-        a: zero,
-        b: zero,
-        c: zero,
-    };
-    let clock = Clock {
-        i: 0,
-        mu: 0.0,
-        omega: 0.0,
-        integ: 0.0,
-    };
-    let t = Track {
-        clock: clock,
-        y_prev: zero,
-        d_prev: zero,
-        mid: zero,
-        mid_ready: false,
-        started: false,
-    };
-    ComplexTiming {
-        params: crate::params::no_params(),
-        hist: h,
-        track: t,
+// L3: zeros, what a refused set-up has in the place of a state. One text for both sample types makes them.
+impl Default for ComplexTiming {
+    ghost is_default = { λ x. x ≡ none };
+
+    fn default() -> ComplexTiming {
+        zeros().into()
     }
 }
 
-// The answer of a set-up as a plain record.
-pub fn answer_of(answer: complex_sync::SetUp) -> ComplexSetUp
-    requires { OpeningGiven (opening answer) }
-    ensures outcome { result ≡ set_up_of (opening answer) }
-    ensures given { result.number ≡ 0 → Given result.state }
-{
-    match answer {
-        complex_sync::SetUp::Ready(s) => ComplexSetUp {
-            number: 0,
-            state: record_of(s),
-        },
-        complex_sync::SetUp::Refused(n) => ComplexSetUp {
-            number: n.number(),
-            state: no_state(),
-        },
+// L3: the answer of a set-up as a plain record.
+impl From<Result<SymbolSyncState, Refusal>> for ComplexSetUp {
+    ghost from_gives = { λ answer z. (z ≡ set_up_of answer) × (OpeningGiven answer → z.number ≡ 0 → Given z.state) };
+
+    fn from(answer: Result<SymbolSyncState, Refusal>) -> ComplexSetUp {
+        match answer {
+            Ok(s) => ComplexSetUp {
+                number: 0,
+                state: s.into(),
+            },
+            Err(n) => ComplexSetUp {
+                number: n.number(),
+                state: ComplexTiming::default(),
+            },
+        }
     }
 }
 
@@ -117,11 +142,9 @@ pub fn run(x: ComplexTiming, input: &[f32], output: &mut [f32]) -> ComplexRan
     ensures outcome { outcome_of result.counts result.state output.new ≡ called_complex (sync_of x) input.now output.old }
     ensures given { Given result.state }
 {
-    let ran = complex_sync::run(state_of(x), input, output);
-    let answer = ran.answer;
-    let s = ran.state;
+    let ran = complex_sync::run(x.into(), input, output);
     ComplexRan {
-        counts: counts_of(answer),
-        state: record_of(s),
+        counts: ran.answer.into(),
+        state: ran.state.into(),
     }
 }

@@ -5,5 +5,6 @@
 pub mod complex;
 mod params;
 pub mod real;
+mod zeros;
 
 pub use params::{TimingParams, TimingReadings, TimingValues, readings};

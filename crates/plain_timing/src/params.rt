@@ -1,7 +1,7 @@
 // What both timing loops share: the values of a set-up, the parameters of a state, and the readings,
 // which depend on no sample.
 ghost use Rattle.std.specs.Prelude.{◌≡◌};
-ghost use Rattle.plain_timing.specs.Params.{params_of, params_record, no_params, readings_of};
+ghost use Rattle.plain_timing.specs.Params.{values_of, params_of, params_record, readings_of};
 
 use plain::{detector, detector_code};
 use timing::{Clock, Params};
@@ -41,55 +41,57 @@ pub struct TimingParams {
     pub lim: f64,
 }
 
-// The parameters that a record stands for.
-pub(crate) fn params_of(p: TimingParams) -> Params
-    ensures { result ≡ params_of p }
-{
-    Params {
-        sps: p.sps,
-        ted: detector(p.ted),
-        loop_bw: p.loop_bw,
-        damping: p.damping,
-        max_deviation: p.max_deviation,
-        ted_gain: p.ted_gain,
-        kp: p.kp,
-        ki: p.ki,
-        lim: p.lim,
+// T2: the values that a record stands for.
+impl From<TimingValues> for timing::TimingValues {
+    ghost from_gives = { λ v t. t ≡ values_of v };
+
+    fn from(v: TimingValues) -> timing::TimingValues {
+        timing::TimingValues {
+            sps: v.sps,
+            ted: detector(v.ted),
+            loop_bw: v.loop_bw,
+            damping: v.damping,
+            max_deviation: v.max_deviation,
+            ted_gain: v.ted_gain,
+        }
     }
 }
 
-// The record of parameters.
-pub(crate) fn params_record(p: Params) -> TimingParams
-    ensures { result ≡ params_record p }
-{
-    let ted = p.ted;
-    TimingParams {
-        sps: p.sps,
-        ted: detector_code(ted),
-        loop_bw: p.loop_bw,
-        damping: p.damping,
-        max_deviation: p.max_deviation,
-        ted_gain: p.ted_gain,
-        kp: p.kp,
-        ki: p.ki,
-        lim: p.lim,
+// L1: the parameters that a record stands for.
+impl From<TimingParams> for Params {
+    ghost from_gives = { λ p q. q ≡ params_of p };
+
+    fn from(p: TimingParams) -> Params {
+        Params {
+            sps: p.sps,
+            ted: detector(p.ted),
+            loop_bw: p.loop_bw,
+            damping: p.damping,
+            max_deviation: p.max_deviation,
+            ted_gain: p.ted_gain,
+            kp: p.kp,
+            ki: p.ki,
+            lim: p.lim,
+        }
     }
 }
 
-// What a refused set-up has in the place of parameters.
-pub(crate) fn no_params() -> TimingParams
-    ensures { result ≡ no_params }
-{
-    TimingParams {
-        sps: 0.0,
-        ted: 0,
-        loop_bw: 0.0,
-        damping: 0.0,
-        max_deviation: 0.0,
-        ted_gain: 0.0,
-        kp: 0.0,
-        ki: 0.0,
-        lim: 0.0,
+// L1: the record of parameters.
+impl From<Params> for TimingParams {
+    ghost from_gives = { λ p q. q ≡ params_record p };
+
+    fn from(p: Params) -> TimingParams {
+        TimingParams {
+            sps: p.sps,
+            ted: detector_code(p.ted),
+            loop_bw: p.loop_bw,
+            damping: p.damping,
+            max_deviation: p.max_deviation,
+            ted_gain: p.ted_gain,
+            kp: p.kp,
+            ki: p.ki,
+            lim: p.lim,
+        }
     }
 }
 

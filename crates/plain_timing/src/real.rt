@@ -1,25 +1,49 @@
 // The state of symbol timing recovery of real samples.
+// The records and what makes them are twins of `complex`: the C interface takes no type parameter.
 ghost use Rattle.std.specs.Prelude.{◌≡◌};
 ghost use Rattle.timing.specs.Run.{OpeningGiven, called_real};
-ghost use Rattle.real_sync.specs.Views.{sync, opening, outcome_of};
+ghost use Rattle.real_sync.specs.Views.{outcome_of};
 ghost use Rattle.plain_timing.specs.Real.{sync_of, record_of, none, set_up_of, Given};
 
-use crate::params::{TimingParams, params_of, params_record};
-use real_sync::{Hist, SymbolSyncState, Track};
-use timing::Clock;
-use values::Progress;
+use crate::params::TimingParams;
+use crate::zeros::zeros;
+use real_sync::SymbolSyncState;
+use timing::{Clock, Hist, Track};
+use values::{Progress, Refusal};
+
+// T5: the last three samples, oldest first.
+#[repr(C)]
+#[derive(Clone, Copy)]
+pub struct RealHist {
+    pub a: f32,
+    pub b: f32,
+    pub c: f32,
+}
+
+// T5: what a run changes while it loops.
+#[repr(C)]
+#[derive(Clone, Copy)]
+pub struct RealTrack {
+    pub clock: Clock,
+    pub y_prev: f32,
+    pub d_prev: f32,
+    pub mid: f32,
+    pub mid_ready: bool,
+    pub started: bool,
+}
 
 // The state as a plain record.
 #[repr(C)]
 #[derive(Clone, Copy)]
 pub struct RealTiming {
     pub params: TimingParams,
-    pub hist: Hist,
-    pub track: Track,
+    pub hist: RealHist,
+    pub track: RealTrack,
 }
 
 // L3: the answer of a set-up: its number, and the state where the number is 0. Where it is not, there is no
-// state: the record is all zeros, and no call may be given it.
+// state: the record is all zeros, and no call may be given it. The number stands beside the state as the C
+// interface has them.
 #[repr(C)]
 #[derive(Clone, Copy)]
 pub struct RealSetUp {
@@ -27,79 +51,82 @@ pub struct RealSetUp {
     pub state: RealTiming,
 }
 
-// The state that a record stands for.
-pub fn state_of(x: RealTiming) -> SymbolSyncState
-    ensures { sync result ≡ sync_of x }
-{
-    let p = x.params;
-    let h = x.hist;
-    let t = x.track;
-    SymbolSyncState {
-        params: params_of(p),
-        hist: h,
-        track: t,
+// L1: the state that a record stands for.
+impl From<RealTiming> for SymbolSyncState {
+    ghost from_gives = { λ x s. s ≡ sync_of x };
+
+    fn from(x: RealTiming) -> SymbolSyncState {
+        let h = x.hist;
+        let t = x.track;
+        SymbolSyncState {
+            params: x.params.into(),
+            hist: Hist {
+                a: h.a,
+                b: h.b,
+                c: h.c,
+            },
+            track: Track {
+                clock: t.clock,
+                y_prev: t.y_prev,
+                d_prev: t.d_prev,
+                mid: t.mid,
+                mid_ready: t.mid_ready,
+                started: t.started,
+            },
+        }
     }
 }
 
-// The record of a state.
-pub fn record_of(s: SymbolSyncState) -> RealTiming
-    ensures { result ≡ record_of (sync s) }
-{
-    let p = s.params;
-    let h = s.hist;
-    let t = s.track;
-    RealTiming {
-        params: params_record(p),
-        hist: h,
-        track: t,
+// L1: the record of a state.
+impl From<SymbolSyncState> for RealTiming {
+    ghost from_gives = { λ s x. x ≡ record_of s };
+
+    fn from(s: SymbolSyncState) -> RealTiming {
+        let h = s.hist;
+        let t = s.track;
+        RealTiming {
+            params: s.params.into(),
+            hist: RealHist {
+                a: h.a,
+                b: h.b,
+                c: h.c,
+            },
+            track: RealTrack {
+                clock: t.clock,
+                y_prev: t.y_prev,
+                d_prev: t.d_prev,
+                mid: t.mid,
+                mid_ready: t.mid_ready,
+                started: t.started,
+            },
+        }
     }
 }
 
-// What a refused set-up has in the place of a state.
-fn no_state() -> RealTiming
-    ensures { result ≡ none }
-{
-    let h = Hist {
-        a: 0.0,
-        b: 0.0,
-        c: 0.0,
-    };
-    let clock = Clock {
-        i: 0,
-        mu: 0.0,
-        omega: 0.0,
-        integ: 0.0,
-    };
-    let t = Track {
-        clock: clock,
-        y_prev: 0.0,
-        d_prev: 0.0,
-        mid: 0.0,
-        mid_ready: false,
-        started: false,
-    };
-    RealTiming {
-        params: crate::params::no_params(),
-        hist: h,
-        track: t,
+// L3: zeros, what a refused set-up has in the place of a state. One text for both sample types makes them.
+impl Default for RealTiming {
+    ghost is_default = { λ x. x ≡ none };
+
+    fn default() -> RealTiming {
+        zeros().into()
     }
 }
 
-// The answer of a set-up as a plain record.
-pub fn answer_of(answer: real_sync::SetUp) -> RealSetUp
-    requires { OpeningGiven (opening answer) }
-    ensures outcome { result ≡ set_up_of (opening answer) }
-    ensures given { result.number ≡ 0 → Given result.state }
-{
-    match answer {
-        real_sync::SetUp::Ready(s) => RealSetUp {
-            number: 0,
-            state: record_of(s),
-        },
-        real_sync::SetUp::Refused(n) => RealSetUp {
-            number: n.number(),
-            state: no_state(),
-        },
+// L3: the answer of a set-up as a plain record.
+impl From<Result<SymbolSyncState, Refusal>> for RealSetUp {
+    ghost from_gives = { λ answer z. (z ≡ set_up_of answer) × (OpeningGiven answer → z.number ≡ 0 → Given z.state) };
+
+    fn from(answer: Result<SymbolSyncState, Refusal>) -> RealSetUp {
+        match answer {
+            Ok(s) => RealSetUp {
+                number: 0,
+                state: s.into(),
+            },
+            Err(n) => RealSetUp {
+                number: n.number(),
+                state: RealTiming::default(),
+            },
+        }
     }
 }
 
@@ -116,11 +143,9 @@ pub fn run(x: RealTiming, input: &[f32], output: &mut [f32]) -> RealRan
     ensures outcome { outcome_of result.counts (sync_of result.state) output.new ≡ called_real (sync_of x) input.now output.old }
     ensures given { Given result.state }
 {
-    let ran = real_sync::run(state_of(x), input, output);
-    let counts = ran.progress;
-    let s = ran.state;
+    let ran = real_sync::run(x.into(), input, output);
     RealRan {
-        counts: counts,
-        state: record_of(s),
+        counts: ran.progress,
+        state: ran.state.into(),
     }
 }

@@ -1,10 +1,8 @@
-// Symbol timing recovery of real samples (f32): one interpolated sample per symbol (T).
-// From kernels/symbol_sync.rs and fallback/symbol_sync.rs.
-// States go by value, and `symbol_sync` takes one that is lent.
+// Symbol timing recovery of real samples: `timing_loop` at f32, whose runs refuse nothing. States go by value, and
+// `symbol_sync` takes one that is lent.
 #![tactic(auto)]
 
 mod loops;
-mod state;
 
-pub use loops::{Ran, run, symbol_sync};
-pub use state::{Hist, SetUp, SymbolSyncState, Track, reset, set_up};
+pub use loops::{Ran, SymbolSyncState, run, symbol_sync};
+pub use timing_loop::{reset, set_up};

@@ -18,24 +18,24 @@ places = replicate 512 zero₀
 abbrev pub call_on : Receiver → List Float → Outcome
 call_on r xs = called r xs places places
 
--- its number, counts and receiver, how many symbols read none with it, and whether its symbols were written
-abbrev pub called_of : ℕ → Outcome → Bool → Called
-called_of none o w = record { counts = record { number = o.number; consumed = o.consumed; produced = o.produced }; receiver = o.receiver; none = none_with none (outputs_of o); written = w }
+-- its number, counts and receiver, and how many symbols read none with it
+abbrev pub called_of : ℕ → Outcome → Called
+called_of none o = record { counts = record { number = o.number; consumed = o.consumed; produced = o.produced }; receiver = o.receiver; none = none_with none (outputs_of o) }
 
 -- what a block comes to with its last call
 abbrev pub ended_by : Called → Received
-ended_by z = record { number = z.counts.number; receiver = z.receiver; none = z.none; written = z.written }
+ended_by z = record { number = z.counts.number; receiver = z.receiver; none = z.none }
 
 -- nothing is produced, or all is consumed
 abbrev pub final : List Float → Outcome → Bool
 final xs o = eqb o.produced 0 || leb (length xs / 2) o.consumed
 
--- calls with what is left of the block, n at most, where all symbols are written
+-- calls with what is left of the block, n at most
 unfoldable pub received : ℕ → Receiver → ℕ → List Float → Received
-received zero r none xs = record { number = 0; receiver = r; none = none; written = true }
+received zero r none xs = record { number = 0; receiver = r; none = none }
 received (suc n) r none xs =
     let o = call_on r xs in
-    let z = called_of none o true in
+    let z = called_of none o in
     cond (final xs o) (ended_by z) (received n z.receiver z.none (drop (2 * o.consumed) xs))
 
 -- ---- a recording, received block by block

@@ -6,15 +6,14 @@
 #![tactic(auto)]
 
 mod block;
-mod input;
-mod output;
+mod error;
 mod report;
 
-ghost use Rattle.std.specs.Prelude.{◌≡◌, false};
 ghost use Rattle.receiver.specs.Record.{Given};
 
 use carrier::CostasConstellation;
-use receiver::{Receiver, SetUp};
+use error::Error;
+use receiver::Receiver;
 use recordings::Content;
 use std::env::{Env, FillError};
 use std::io::Read;
@@ -32,125 +31,75 @@ const PARTS: usize = 4096;
 
 const SAMPLE: usize = 8;
 
-// How far the recording is received: the receiver, how many symbols read none, what the samples so far
-// are, and whether more are to be read.
+// How far the recording is received: the receiver, which a set-up or a call gave, how many symbols read none, and what
+// the samples so far are.
 #[derive(Clone, Copy)]
 struct Sofar {
     receiver: Receiver,
     none: u64,
     content: Content,
-    more: bool,
+    ghost given: { Given receiver },
 }
 
-// Nothing more is to be read.
-fn stopped(s: Sofar) -> Sofar
-    ensures { result ≡ record { receiver = s.receiver; none = s.none; content = s.content; more = false } }
-{
-    let receiver = s.receiver;
-    let content = s.content;
-    Sofar {
-        receiver: receiver,
-        none: s.none,
-        content: content,
-        more: false,
-    }
-}
-
-// Writes the summary. It is said if that fails, or if the input ends inside a sample.
-fn conclude(rt: &(impl Print + Eprint), s: Sofar, cut: bool) {
-    let receiver = s.receiver;
-    let content = s.content;
-    let mut failure = None;
-    if !report::summary(rt, &mut failure, receiver, s.none, content) {
-        report::not_written(rt, failure);
-        return;
-    }
-    if cut {
-        report::cut_short(rt);
-    }
-}
-
-// Receives the next block; behind the last one it writes the summary.
-fn advance(rt: &(impl Print + Eprint), reader: &mut impl Read, s: Sofar) -> Sofar
-    requires { Given s.receiver }
-    ensures { Given result.receiver }
-{
+// Receives the next block; behind the last one it writes the summary, and nothing follows.
+fn advance(rt: &impl Print, reader: &mut impl Read, s: Sofar) -> Result<Option<Sofar>, Error> {
     let mut bytes = [0u8; BLOCK];
-    let filled = input::fill(reader, &mut bytes);
-    if let Some(why) = filled.failed {
-        report::not_read(rt, why);
-        return stopped(s);
-    }
-    let n = filled.count;
+    let n = standard_input::fill(reader, &mut bytes)?;
     let mut input = [0.0f32; PARTS];
     let parts = 2 * recordings::read_samples(&bytes[..n], &mut input);
-    let before = s.content;
-    let content = recordings::content_with(before, &input[..parts]);
-    let mut failure = None;
-    let received = block::receive(rt, &mut failure, s.receiver, s.none, &input[..parts]);
-    let receiver = received.receiver;
-    if !received.written {
-        report::not_written(rt, failure);
-        return stopped(s);
-    }
+    let content = recordings::content_with(s.content, &input[..parts]);
+    let received = block::receive(rt, s.receiver, s.none, &input[..parts]).map_err(Error::Write)?;
     if received.number > 0 {
-        report::refused(rt, received.number);
-        return stopped(s);
+        return Err(Error::Refused(received.number));
     }
     let after = Sofar {
-        receiver: receiver,
+        receiver: received.receiver,
         none: received.none,
         content: content,
-        more: n == BLOCK,
     };
-    if n < BLOCK {
-        conclude(rt, after, n % SAMPLE > 0);
+    if n == BLOCK {
+        return Ok(Some(after));
     }
-    after
+    report::summary(rt, after).map_err(Error::Write)?;
+    if n % SAMPLE > 0 {
+        return Err(Error::CutShort);
+    }
+    Ok(None)
 }
 
 // Receives block after block, up to the end of the input.
-fn receive(rt: &(impl Print + Eprint), reader: &mut impl Read, r: Receiver)
+fn receive(rt: &impl Print, reader: &mut impl Read, r: Receiver) -> Result<(), Error>
     requires { Given r }
 {
     let mut sofar = Sofar {
         receiver: r,
         none: 0,
         content: Content::Empty,
-        more: true,
     };
-    let mut left = BLOCKS;
-    while left > 0 {
-        sofar = advance(rt, reader, sofar);
-        if !sofar.more {
-            return;
-        }
-        left -= 1;
+    for _ in 0..BLOCKS {
+        let Some(after) = advance(rt, reader, sofar)? else {
+            return Ok(());
+        };
+        sofar = after;
     }
-    report::too_long(rt);
+    Err(Error::TooLong)
 }
 
-// Whether the program was given arguments, beside its own name.
-fn has_arguments(rt: &impl Env) -> bool {
-    match rt.arg(1, &mut [0u8; 1]) {
-        Err(FillError::NotPresent) => false,
-        _ => true,
-    }
-}
-
-fn main(rt: HostRuntime) {
-    if has_arguments(&rt) {
-        report::arguments(&rt);
-        return;
-    }
-    let mut reader = rt.reader();
-    let answer = receiver::set_up(
+fn run(rt: &(impl Env + Input + Print)) -> Result<(), Error> {
+    // Argument 0 is the program's own name.
+    let Err(FillError::NotPresent) = rt.arg(1, &mut [0u8; 1]) else {
+        return Err(Error::Arguments);
+    };
+    let r = receiver::set_up(
         CostasConstellation::Qpsk,
         recordings::timing_defaults(Ted::Gardner),
         recordings::carrier_defaults(),
-    );
-    match answer {
-        SetUp::Ready(r) => receive(&rt, &mut reader, r),
-        SetUp::Refused(n) => report::refused(&rt, n.number()),
+    )?;
+    receive(rt, &mut rt.reader(), r)
+}
+
+fn main(rt: HostRuntime) {
+    if let Err(error) = run(&rt) {
+        error::tell(&rt, error);
     }
 }

@@ -1,6 +1,6 @@
 -- The receiver: which set-up is refused, which record a set-up, a reset or the phase setting gives, and what
 -- holds of every such record. Definitions only.
-use Rattle.std.specs.Prelude.{◌≡◌, ℕ, true, List, ◌++◌, T}
+use Rattle.std.specs.Prelude.{◌≡◌, ℕ, true, List, ◌++◌, T, Result, Ok, Err}
 use Rattle.values.specs.Refusal.{number_of}
 use Rattle.checks.specs.Table.{Row, first_of}
 use Rattle.timing.specs.Gains.{kp_of, ki_of}
@@ -9,17 +9,18 @@ use Rattle.timing.specs.Setup as timing
 use Rattle.timing.specs.Sample.{complex}
 use Rattle.timing.specs.declared.params.Params.{Params}
 use Rattle.timing.specs.Run as run
-use Rattle.complex_sync.specs.Views.{state_of}
 use Rattle.constellations.specs.declared.kinds.CostasConstellation.{CostasConstellation}
 use Rattle.constellations.specs.declared.kinds.CostasConstellation.TheVariants.{Bpsk}
 use Rattle.carrier.specs.declared.params.Params as carrierParams
 use Rattle.carrier.specs.State as carrier
-use Rattle.receiver_records.specs.declared.record.Receiver64.{Receiver64}
-use Rattle.receiver_records.specs.Records.{Given64}
-use Rattle.receiver.specs.declared.record.TimingValues.{TimingValues}
-use Rattle.receiver.specs.declared.record.CarrierValues.{CarrierValues}
-use Rattle.receiver.specs.declared.record.SetUp.{SetUp}
-use Rattle.receiver.specs.declared.record.SetUp.TheVariants.{Ready, Refused}
+use Rattle.receiver_records.specs.Records.{Receiver64, Given64}
+use Rattle.timing.specs.declared.params.TimingValues.{TimingValues}
+use Rattle.carrier.specs.declared.params.CarrierValues.{CarrierValues}
+use Rattle.values.specs.declared.error.Refusal.{Refusal}
+
+-- a set-up's answer: the receiver, or why it is refused
+abbrev pub SetUp : Type 0
+SetUp = Result Receiver64 Refusal
 
 -- R2, R18: the receiver's record is the one whose count has 64 bits
 abbrev pub Receiver : Type 0
@@ -38,7 +39,7 @@ carrier_params_of c = carrier.params_of c.loop_bw c.damping c.max_offset
 
 -- R7: both loops fresh, and no symbol counted
 abbrev pub fresh : CostasConstellation → Params → carrierParams.Params → Receiver
-fresh k p q = record { timing = state_of (run.fresh complex p); carrier = carrier.fresh k q; count = 0 }
+fresh k p q = record { timing = run.fresh complex p; carrier = carrier.fresh k q; count = 0 }
 
 -- the tests of timing, and those of the carrier
 abbrev pub timing_rows : TimingValues → List Row
@@ -53,12 +54,12 @@ rows t c = timing_rows t ++ carrier_rows c
 
 -- R4: a set-up's answer; a refused one has no receiver (A6)
 unfoldable pub opened : CostasConstellation → TimingValues → CarrierValues → SetUp
-opened k t c = first_of Refused (rows t c) (Ready (fresh k (timing_params t) (carrier_params_of c)))
+opened k t c = first_of Err (rows t c) (Ok (fresh k (timing_params t) (carrier_params_of c)))
 
 -- K7: its number (0: accepted)
 abbrev pub set_up_number : SetUp → ℕ
-set_up_number (Ready r) = 0
-set_up_number (Refused n) = number_of n
+set_up_number (Ok r) = 0
+set_up_number (Err n) = number_of n
 
 -- R7: the receiver after a reset, which keeps the values of the set-up
 abbrev pub restarted : Receiver → Receiver
@@ -79,5 +80,5 @@ abbrev pub Given : Receiver → Type 0
 Given r = Given64 r
 
 abbrev pub SetUpGiven : SetUp → Type 0
-SetUpGiven (Ready r) = Given r
-SetUpGiven (Refused n) = T true
+SetUpGiven (Ok r) = Given r
+SetUpGiven (Err n) = T true

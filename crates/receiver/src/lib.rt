@@ -5,10 +5,12 @@
 mod loops;
 mod record;
 
+pub use carrier::CarrierValues;
 pub use loops::{join, put_carrier, put_timing, set_up_carrier, set_up_timing};
 pub use receiver_records::Receiver64 as Receiver;
 pub use record::{
-    CarrierValues, SetUp, TimingValues, constellation, count, frequency, lock_level, locked,
-    next_strobe, phase, reset, set_phase, set_up, set_up_unnamed, sps_estimate,
+    constellation, count, frequency, lock_level, locked, next_strobe, phase, reset, set_phase,
+    set_up, set_up_unnamed, sps_estimate,
 };
-pub use symbol_numbers::{SymbolNumber, symbol_number};
+pub use symbol_numbers::symbol_number;
+pub use timing::TimingValues;

@@ -1,43 +1,38 @@
 // One loop of a receiver by itself: its set-up with the receiver's checks, and how it is put into a record.
 ghost use Rattle.std.specs.Prelude.{◌≡◌};
 ghost use Rattle.timing.specs.Run.{Given as GivenTiming};
-ghost use Rattle.complex_sync.specs.Views.{sync};
 ghost use Rattle.carrier.specs.State.{Given as GivenCarrier, SetUpGiven as CarrierGiven};
 ghost use Rattle.receiver.specs.Record.{Given};
 ghost use Rattle.receiver.specs.Loops.{timing_opened, carrier_opened, joined, timing_put, carrier_put, TimingGiven};
 
-use crate::record::{CarrierValues, TimingValues};
-use carrier::{CostasConstellation, CostasState};
+use carrier::{CarrierValues, CostasConstellation, CostasState};
 use complex_sync::SymbolSyncState;
 use receiver_records::Receiver64 as Receiver;
+use timing::TimingValues;
+use values::Refusal;
 
 // R25: a fresh timing loop, or the number of what is wrong with its values, by the receiver's checks of timing.
-pub fn set_up_timing(t: TimingValues) -> complex_sync::SetUp
+pub fn set_up_timing(t: TimingValues) -> Result<SymbolSyncState, Refusal>
     ensures outcome { result ≡ timing_opened t }
     ensures given { TimingGiven result }
 {
-    let ted = t.ted;
-    complex_sync::set_up(
-        t.sps,
-        ted,
-        t.loop_bw,
-        t.damping,
-        t.max_deviation,
-        t.ted_gain,
-    )
+    complex_sync::set_up(t)
 }
 
 // R25: a fresh carrier loop, or the number of what is wrong with its values, by the receiver's checks of the carrier.
-pub fn set_up_carrier(constellation: CostasConstellation, c: CarrierValues) -> carrier::SetUp
+pub fn set_up_carrier(
+    constellation: CostasConstellation,
+    c: CarrierValues,
+) -> Result<CostasState, Refusal>
     ensures outcome { result ≡ carrier_opened constellation c }
     ensures given { CarrierGiven result }
 {
-    carrier::set_up(constellation, c.loop_bw, c.damping, c.max_offset)
+    carrier::set_up(constellation, c)
 }
 
-// R26: the record of two loops, with no symbol counted.
+// R26: the record of two loops, with no symbol counted. That both were given is a clause, as wherever a state comes in.
 pub fn join(timing: SymbolSyncState, carrier: CostasState) -> Receiver
-    requires timing { GivenTiming (sync timing) }
+    requires timing { GivenTiming timing }
     requires carrier { GivenCarrier carrier }
     ensures state { result ≡ joined timing carrier }
     ensures given { Given result }
@@ -52,17 +47,11 @@ pub fn join(timing: SymbolSyncState, carrier: CostasState) -> Receiver
 // R27: the record with another timing loop. The carrier and the count stay.
 pub fn put_timing(r: Receiver, timing: SymbolSyncState) -> Receiver
     requires given_2 { Given r }
-    requires timing { GivenTiming (sync timing) }
+    requires timing { GivenTiming timing }
     ensures state { result ≡ timing_put r timing }
     ensures given { Given result }
 {
-    let c = r.carrier;
-    let count = r.count;
-    Receiver {
-        timing: timing,
-        carrier: c,
-        count: count,
-    }
+    Receiver { timing, ..r }
 }
 
 // R27: the record with another carrier loop. Timing and the count stay.
@@ -72,10 +61,5 @@ pub fn put_carrier(r: Receiver, carrier: CostasState) -> Receiver
     ensures state { result ≡ carrier_put r carrier }
     ensures given { Given result }
 {
-    let t = r.timing;
-    Receiver {
-        timing: t,
-        carrier: carrier,
-        count: r.count,
-    }
+    Receiver { carrier, ..r }
 }

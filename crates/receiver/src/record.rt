@@ -3,84 +3,31 @@ ghost use Rattle.std.specs.Prelude.{◌≡◌};
 ghost use Rattle.timing.specs.Clock.{next_strobe};
 ghost use Rattle.receiver.specs.Record.{unnamed, opened, restarted, phase_set, Given, SetUpGiven};
 
-use carrier::CostasConstellation;
+use crate::loops::join;
+use carrier::{CarrierValues, CostasConstellation};
 use receiver_records::Receiver64 as Receiver;
-use timing::Ted;
+use timing::TimingValues;
 use values::Refusal;
-
-// T2: what the timing loop is set up with.
-#[derive(Clone, Copy)]
-pub struct TimingValues {
-    // Samples per symbol, 2 to 1,000,000.
-    pub sps: f64,
-    pub ted: Ted,
-    // Loop bandwidth, normalized to the symbol rate, 0.0001 to 0.1.
-    pub loop_bw: f64,
-    // 0.1 to 4 (1/√2 is usual).
-    pub damping: f64,
-    // Largest deviation of the spacing from sps, as a fraction of sps, 0 to 0.05.
-    pub max_deviation: f64,
-    // Detector gain, above 0: the detector's slope per symbol of offset.
-    pub ted_gain: f64,
-}
-
-// C2: what the carrier loop is set up with, but for its constellation.
-#[repr(C)]
-#[derive(Clone, Copy)]
-pub struct CarrierValues {
-    // Loop bandwidth, normalized to the symbol rate, 0.0001 to 0.2.
-    pub loop_bw: f64,
-    // 0.1 to 4 (1/√2 is usual).
-    pub damping: f64,
-    // Largest frequency offset, in cycles per symbol, 0 to 0.25.
-    pub max_offset: f64,
-}
-
-// The answer of a set-up.
-#[derive(Clone, Copy)]
-pub enum SetUp {
-    Ready(Receiver),
-    Refused(Refusal),
-}
 
 // ---- Set-up
 
 // R4: a fresh receiver, or the number of what is wrong, with timing's values checked before the carrier's.
 // `TimingValues` and `CarrierValues` have the ranges.
-pub fn set_up(constellation: CostasConstellation, t: TimingValues, c: CarrierValues) -> SetUp
+pub fn set_up(
+    constellation: CostasConstellation,
+    t: TimingValues,
+    c: CarrierValues,
+) -> Result<Receiver, Refusal>
     ensures outcome { result ≡ opened constellation t c }
     ensures given { SetUpGiven result }
 {
-    let ted = t.ted;
-    let answer = complex_sync::set_up(
-        t.sps,
-        ted,
-        t.loop_bw,
-        t.damping,
-        t.max_deviation,
-        t.ted_gain,
-    );
-    match answer {
-        complex_sync::SetUp::Ready(timing) => {
-            let answer = carrier::set_up(constellation, c.loop_bw, c.damping, c.max_offset);
-            match answer {
-                carrier::SetUp::Ready(carrier) => {
-                    let receiver = Receiver {
-                        timing: timing,
-                        carrier: carrier,
-                        count: 0,
-                    };
-                    SetUp::Ready(receiver)
-                }
-                carrier::SetUp::Refused(n) => SetUp::Refused(n),
-            }
-        }
-        complex_sync::SetUp::Refused(n) => SetUp::Refused(n),
-    }
+    let timing = complex_sync::set_up(t)?;
+    let carrier = carrier::set_up(constellation, c)?;
+    Ok(join(timing, carrier))
 }
 
 // R3: a set-up for BPSK, where no constellation is named. `TimingValues` and `CarrierValues` have the ranges.
-pub fn set_up_unnamed(t: TimingValues, c: CarrierValues) -> SetUp
+pub fn set_up_unnamed(t: TimingValues, c: CarrierValues) -> Result<Receiver, Refusal>
     ensures outcome { result ≡ opened unnamed t c }
     ensures given { SetUpGiven result }
 {
@@ -93,11 +40,9 @@ pub fn reset(r: Receiver) -> Receiver
     ensures state { result ≡ restarted r }
     ensures given { Given result }
 {
-    let t = r.timing;
-    let c = r.carrier;
     Receiver {
-        timing: complex_sync::reset(t),
-        carrier: carrier::reset(c),
+        timing: complex_sync::reset(r.timing),
+        carrier: carrier::reset(r.carrier),
         count: 0,
     }
 }
@@ -108,13 +53,8 @@ pub fn set_phase(r: Receiver, phase: u32) -> Receiver
     ensures state { result ≡ phase_set r phase }
     ensures given { Given result }
 {
-    let t = r.timing;
-    let c = r.carrier;
-    Receiver {
-        timing: t,
-        carrier: carrier::set_phase(c, phase),
-        count: r.count,
-    }
+    let carrier = carrier::set_phase(r.carrier, phase);
+    Receiver { carrier, ..r }
 }
 
 // ---- Readings (R9)

@@ -2,46 +2,62 @@
 ghost use Rattle.std.specs.Prelude.{◌≡◌};
 ghost use Rattle.receiver_records.specs.Records.{widened, narrowed, Given32, Given64, NarrowedGiven};
 
-use crate::record::{Receiver32, Receiver64};
+use crate::record::{Receiver32, Receiver64, Record};
+use std::fmt;
 
-// The largest count that 32 bits hold.
-pub const LARGEST_32: u64 = 0xffff_ffff;
+// R21: why a record gives none with a count of 32 bits.
+#[derive(Clone, Copy, Debug, PartialEq, Eq)]
+pub struct TooLarge;
 
-// R21: the answer of a conversion down.
-#[derive(Clone, Copy)]
-pub enum Narrowed {
-    Fits(Receiver32),
-    TooLarge,
+impl fmt::Display for TooLarge {
+    fn fmt<W: fmt::Write>(&self, f: &mut fmt::Formatter<W>) -> fmt::Result {
+        f.write_str("the symbol count is above 4,294,967,295")
+    }
 }
 
 // R20: up. Every record converts.
-pub fn widen(old: Receiver32) -> Receiver64
-    ensures state { result ≡ widened old }
-    ensures given { Given32 old → Given64 result }
-{
-    let timing = old.timing;
-    let carrier = old.carrier;
-    Receiver64 {
-        timing: timing,
-        carrier: carrier,
-        count: old.count as u64,
+impl From<Receiver32> for Receiver64 {
+    ghost from_gives = { λ old r. r ≡ widened old };
+
+    fn from(old: Receiver32) -> Receiver64 {
+        Record {
+            timing: old.timing,
+            carrier: old.carrier,
+            count: u64::from(old.count),
+        }
     }
 }
 
 // R21: down. A record whose count does not fit into 32 bits is too large, and gives none.
-pub fn narrow(r: Receiver64) -> Narrowed
+impl TryFrom<Receiver64> for Receiver32 {
+    type Error = TooLarge;
+
+    ghost try_from_gives = { λ r answer. answer ≡ narrowed r };
+
+    fn try_from(r: Receiver64) -> Result<Receiver32, TooLarge> {
+        match u32::try_from(r.count) {
+            Ok(count) => Ok(Record {
+                timing: r.timing,
+                carrier: r.carrier,
+                count: count,
+            }),
+            Err(_) => Err(TooLarge),
+        }
+    }
+}
+
+// R20: up, by its name in the specification.
+pub fn widen(old: Receiver32) -> Receiver64
+    ensures state { result ≡ widened old }
+    ensures given { Given32 old → Given64 result }
+{
+    old.into()
+}
+
+// R21: down, by its name in the specification.
+pub fn narrow(r: Receiver64) -> Result<Receiver32, TooLarge>
     ensures outcome { result ≡ narrowed r }
     ensures given { Given64 r → NarrowedGiven result }
 {
-    if r.count > LARGEST_32 {
-        return Narrowed::TooLarge;
-    }
-    let timing = r.timing;
-    let carrier = r.carrier;
-    let old = Receiver32 {
-        timing: timing,
-        carrier: carrier,
-        count: r.count as u32,
-    };
-    Narrowed::Fits(old)
+    r.try_into()
 }

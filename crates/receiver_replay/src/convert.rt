@@ -3,7 +3,7 @@ ghost use Rattle.receiver.specs.Record.{Given};
 
 use answers::{Operation, words_agree};
 use receiver::Receiver;
-use receiver_records::Narrowed;
+use receiver_records::TooLarge;
 
 // What a line has for "too large" (L13).
 const TOO_LARGE: u64 = 100;
@@ -14,15 +14,15 @@ pub(crate) fn convert(r: Receiver) -> Receiver
     ensures { Given result }
 {
     match receiver_records::narrow(r) {
-        Narrowed::Fits(old) => receiver_records::widen(old),
-        Narrowed::TooLarge => r,
+        Ok(old) => receiver_records::widen(old),
+        Err(TooLarge) => r,
     }
 }
 
 // Whether the conversion down has the count and the number that the line records.
 pub(crate) fn conversion_agrees(r: Receiver, op: Operation) -> bool {
     match receiver_records::narrow(r) {
-        Narrowed::Fits(old) => words_agree(old.count as u64, 0, 0, op),
-        Narrowed::TooLarge => words_agree(0, 0, TOO_LARGE, op),
+        Ok(old) => words_agree(old.count as u64, 0, 0, op),
+        Err(TooLarge) => words_agree(0, 0, TOO_LARGE, op),
     }
 }

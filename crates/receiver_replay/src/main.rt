@@ -42,185 +42,52 @@ mod first;
 mod second;
 mod set_up;
 mod symbols;
-mod tests;
 mod turned;
 mod workspace;
 
-ghost use Rattle.receiver.specs.Record.{Given};
-ghost use Rattle.replay.specs.Tally.{Tallied};
-
 use answers::Operation;
-use receiver::{Receiver, SetUp};
-use replay::{LINES, tally};
-use std::io::Read;
+use first::Played;
+use replay::Player;
+use replay::tally::Tally;
 use turned::{Turns, next_turns};
+use workspace::Workspace;
 
-// The receiver of the lines, the turned one beside it, and by how much that is turned.
+// The receiver of the lines, the turned one beside it, and by how much that is turned; and the buffers of the first.
 #[derive(Clone, Copy)]
 struct Pair {
-    first: Receiver,
-    second: Receiver,
+    first: Played,
+    second: Played,
     turns: Turns,
+    work: Workspace,
 }
 
-// Plays an operation on both receivers, and counts it.
-fn play(
-    rt: &impl Print,
-    pair: Pair,
-    op: Operation,
-    line: &[u8],
-    timing: &mut [u64; 5],
-    carrier: &mut [u64; 5],
-    input: &mut [f32; 192],
-    strobes: &mut [f32; 192],
-    output: &mut [f32; 192],
-    tally: &mut [u64; 16],
-) -> Pair
-    requires { Given pair.first × Given pair.second }
-    ensures given { Given result.first × Given result.second }
-    ensures tallied { Tallied 1 tally.old tally.new }
-{
-    let mut agrees = workspace::play(op, timing, carrier, input, strobes, output);
-    let r = pair.first;
-    let first = first::play(r, op, timing, carrier, input, strobes, output, &mut agrees);
-    let turns = next_turns(pair.turns, op);
-    let mut turned = false;
-    let r = pair.second;
-    let second = second::play(first, r, op, turns, input, strobes, output, &mut turned);
-    counts::count(rt, tally, line, op.letter, agrees, turned);
-    Pair {
-        first: first,
-        second: second,
-        turns: turns,
+impl Player for Pair {
+    fn play(&mut self, rt: &impl Print, op: Operation, line: &[u8], tally: &mut Tally) {
+        let agrees = self.work.play(op);
+        let agrees = self.first.play(op, &mut self.work, agrees);
+        self.turns = next_turns(self.turns, op);
+        let turned = self
+            .second
+            .play_turned(&self.first, op, self.turns, &mut self.work);
+        counts::count(rt, tally, line, op.letter, agrees, turned);
+    }
+
+    // Damages the operation, or turns the second receiver otherwise.
+    fn damage(&mut self, op: Operation, turn: u64) -> Operation {
+        self.turns = turned::other(self.turns, turn);
+        turned::altered(op, turn)
     }
 }
 
-// Plays a damaged operation, or one with other turns, which must be counted as
-// differing. It has no other effect.
-fn play_damaged(
-    rt: &impl Print,
-    pair: Pair,
-    op: Operation,
-    timing: &[u64; 5],
-    carrier: &[u64; 5],
-    input: &[f32; 192],
-    strobes: &[f32; 192],
-    output: &[f32; 192],
-    damaged: &mut [u64; 16],
-)
-    requires { Given pair.first × Given pair.second }
-{
-    let turn = tally::played(damaged);
-    let op = turned::altered(op, turn);
-    let first = pair.first;
-    let second = pair.second;
-    let turns = turned::other(pair.turns, turn);
-    let pair = Pair {
-        first: first,
-        second: second,
-        turns: turns,
-    };
-    let mut timing = *timing;
-    let mut carrier = *carrier;
-    let mut input = *input;
-    let mut strobes = *strobes;
-    let mut output = *output;
-    play(
-        rt,
-        pair,
-        op,
-        b"",
-        &mut timing,
-        &mut carrier,
-        &mut input,
-        &mut strobes,
-        &mut output,
-        damaged,
-    );
-}
-
-// Plays a line, first damaged and then as it is.
-fn play_line(
-    rt: &impl Print,
-    pair: Pair,
-    line: &[u8],
-    timing: &mut [u64; 5],
-    carrier: &mut [u64; 5],
-    input: &mut [f32; 192],
-    strobes: &mut [f32; 192],
-    output: &mut [f32; 192],
-    tally: &mut [u64; 16],
-    damaged: &mut [u64; 16],
-) -> Pair
-    requires { Given pair.first × Given pair.second }
-    ensures given { Given result.first × Given result.second }
-    ensures tallied { Tallied 1 tally.old tally.new }
-{
-    let op = answers::read_operation(line);
-    play_damaged(
-        rt, pair, op, timing, carrier, input, strobes, output, damaged,
-    );
-    play(
-        rt, pair, op, line, timing, carrier, input, strobes, output, tally,
-    )
-}
-
-// Plays line after line, up to the end of the input, and says how many. What is left there after the last
-// whole line counts as a line too.
-fn play_lines(
-    rt: &impl Print,
-    reader: &mut impl Read,
-    r: Receiver,
-    tally: &mut [u64; 16],
-    damaged: &mut [u64; 16],
-) -> u64
-    requires { Given r }
-    ensures { Tallied result tally.old tally.new }
-{
-    let mut timing = [0u64; 5];
-    let mut carrier = [0u64; 5];
-    let mut input = [0.0f32; 192];
-    let mut strobes = [0.0f32; 192];
-    let mut output = [0.0f32; 192];
-    let mut pair = Pair {
-        first: r,
-        second: r,
-        turns: turned::none(),
-    };
-    let mut count = 0;
-    while count < LINES {
-        let mut line = [0u8; 53];
-        let n = replay::read_full(reader, &mut line);
-        if n == 0 {
-            return count;
-        }
-        pair = play_line(
-            rt,
-            pair,
-            &line[..n],
-            &mut timing,
-            &mut carrier,
-            &mut input,
-            &mut strobes,
-            &mut output,
-            tally,
-            damaged,
-        );
-        count += 1;
-    }
-    count
-}
-
-// Some receiver is there before the first line sets up its own.
+// Some receiver is there before the first line sets up its own. Its values are accepted.
 fn main(rt: HostRuntime) {
-    let mut reader = rt.reader();
-    let mut tally = [0; 16];
-    let mut damaged = tally::of_damaged();
-    let mut lines = 0;
-    match set_up::some() {
-        SetUp::Ready(r) => lines = play_lines(&rt, &mut reader, r, &mut tally, &mut damaged),
-        SetUp::Refused(_) => {}
+    if let Ok(r) = set_up::some() {
+        let pair = Pair {
+            first: Played::on(r),
+            second: Played::on(r),
+            turns: Turns::default(),
+            work: Workspace::new(),
+        };
+        replay::replay(&rt, pair, &counts::KINDS);
     }
-    tally::too_long(&rt, &mut tally, lines);
-    counts::show(&rt, &tally, &damaged);
 }

@@ -1,15 +1,17 @@
 // Setting a receiver up as the lines say.
-ghost use Rattle.receiver.specs.Record.{Given, SetUpGiven};
+ghost use Rattle.receiver.specs.Record.{SetUpGiven};
 
-use answers::Operation;
-use receiver::{CarrierValues, Receiver, SetUp, TimingValues};
+use crate::workspace::Workspace;
+use answers::{Operation, of_bits};
+use receiver::{CarrierValues, Receiver, TimingValues};
 use timing::Ted;
+use values::Refusal;
 
 // The largest third word of a set-up.
 const MOST: u64 = 0xfff;
 
 // Some set-up.
-pub(crate) fn some() -> SetUp
+pub(crate) fn some() -> Result<Receiver, Refusal>
     ensures { SetUpGiven result }
 {
     let t = TimingValues {
@@ -29,50 +31,34 @@ pub(crate) fn some() -> SetUp
 }
 
 // What the `v` line before and this one ask for.
-fn timing_values(timing: &[u64; 5], op: Operation) -> TimingValues {
+fn timing_values(words: [u64; 3], op: Operation) -> TimingValues {
+    let [sps, loop_bw, damping] = words;
     TimingValues {
-        sps: answers::f64_of(timing[0]),
+        sps: of_bits(sps),
         ted: plain::detector((op.answer % 2) as u32),
-        loop_bw: answers::f64_of(timing[1]),
-        damping: answers::f64_of(timing[2]),
-        max_deviation: answers::f64_of(op.x),
-        ted_gain: answers::f64_of(op.y),
+        loop_bw: of_bits(loop_bw),
+        damping: of_bits(damping),
+        max_deviation: of_bits(op.x),
+        ted_gain: of_bits(op.y),
     }
 }
 
 // What the `c` line before asks for.
-fn carrier_values(carrier: &[u64; 5]) -> CarrierValues {
+fn carrier_values(words: [u64; 3]) -> CarrierValues {
+    let [loop_bw, damping, max_offset] = words;
     CarrierValues {
-        loop_bw: answers::f64_of(carrier[0]),
-        damping: answers::f64_of(carrier[1]),
-        max_offset: answers::f64_of(carrier[2]),
-    }
-}
-
-// The receiver after a set-up. The line agrees if it is refused with the recorded number, or accepted
-// where that is 0. A refused one leaves the receiver that was there.
-fn opened(r: Receiver, answer: SetUp, number: u64, agrees: &mut bool) -> Receiver
-    requires { Given r × SetUpGiven answer }
-    ensures { Given result }
-{
-    match answer {
-        SetUp::Ready(fresh) => {
-            *agrees = number == 0;
-            fresh
-        }
-        SetUp::Refused(n) => {
-            *agrees = number == n.number() as u64;
-            r
-        }
+        loop_bw: of_bits(loop_bw),
+        damping: of_bits(damping),
+        max_offset: of_bits(max_offset),
     }
 }
 
 // What a set-up answers. The constellation's place is 0 in a line that names none.
-fn answer(timing: &[u64; 5], carrier: &[u64; 5], op: Operation) -> SetUp
+pub(crate) fn answer(work: &Workspace, op: Operation) -> Result<Receiver, Refusal>
     ensures { SetUpGiven result }
 {
-    let t = timing_values(timing, op);
-    let c = carrier_values(carrier);
+    let t = timing_values(work.samples.set_up, op);
+    let c = carrier_values(work.strobes.set_up);
     if op.letter == b'u' {
         receiver::set_up_unnamed(t, c)
     } else {
@@ -80,29 +66,18 @@ fn answer(timing: &[u64; 5], carrier: &[u64; 5], op: Operation) -> SetUp
     }
 }
 
+// The number that a set-up's line records. Kept in each of two programs: a shared function would need a contract and an
+// edit for one expression.
+pub(crate) fn number(op: Operation) -> u64 {
+    op.answer / 16 % 16
+}
+
 // Whether the third word says no more than it may.
-fn is_asked(op: Operation) -> bool {
+pub(crate) fn is_asked(op: Operation) -> bool {
     let code = op.answer / 2 % 8;
     if op.letter == b'u' {
         op.answer <= MOST && code == 0
     } else {
         op.answer <= MOST && code < 3
     }
-}
-
-// Sets up anew, if the line asks for a set-up that there is.
-pub(crate) fn set_up(
-    r: Receiver,
-    timing: &[u64; 5],
-    carrier: &[u64; 5],
-    op: Operation,
-    agrees: &mut bool,
-) -> Receiver
-    requires { Given r }
-    ensures { Given result }
-{
-    if is_asked(op) {
-        return opened(r, answer(timing, carrier, op), op.answer / 16 % 16, agrees);
-    }
-    r
 }

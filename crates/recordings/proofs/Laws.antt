@@ -1,6 +1,4 @@
 -- The laws of this crate.
-pub mod LittleEndian
-pub mod Floats
 pub mod Front
 pub mod Digits
 pub mod Lines

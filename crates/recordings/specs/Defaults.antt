@@ -2,8 +2,8 @@
 use Rattle.std.specs.Float.{binary64}
 use Rattle.ieee.specs.Notation.{decimal}
 use Rattle.timing.specs.declared.params.Ted.{Ted}
-use Rattle.receiver.specs.declared.record.TimingValues.{TimingValues}
-use Rattle.receiver.specs.declared.record.CarrierValues.{CarrierValues}
+use Rattle.timing.specs.declared.params.TimingValues.{TimingValues}
+use Rattle.carrier.specs.declared.params.CarrierValues.{CarrierValues}
 
 abbrev pub timing_defaults : Ted → TimingValues
 timing_defaults ted = record { sps = decimal binary64 4 1; ted = ted; loop_bw = decimal binary64 1 100; damping = decimal binary64 1 1; max_deviation = decimal binary64 1 100; ted_gain = decimal binary64 628 100 }

@@ -1,5 +1,3 @@
-pub mod Bytes
-pub mod Samples
 pub mod Text
 pub mod Thousandths
 pub mod Defaults

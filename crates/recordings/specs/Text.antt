@@ -1,15 +1,13 @@
 -- P8: symbols as text: a digit for each, or a minus sign, in lines of 64. Definitions only.
-use Rattle.std.specs.Prelude.{ℕ, ◌+◌, ◌%◌, cond, List, [], ◌∷◌, map, take, ◌==◌, Float}
+use Rattle.std.specs.Prelude.{ℕ, ◌+◌, ◌%◌, cond, List, [], ◌∷◌, map, take, ◌==◌, Float, Some, None}
 use Rattle.values.specs.declared.sample.C32.{C32}
 use Rattle.values.specs.Samples.{samples}
 use Rattle.constellations.specs.declared.kinds.CostasConstellation.{CostasConstellation}
-use Rattle.symbol_numbers.specs.declared.symbol.SymbolNumber.{SymbolNumber}
-use Rattle.symbol_numbers.specs.declared.symbol.SymbolNumber.TheVariants.{Number, None}
-use Rattle.symbol_numbers.specs.Symbol.{symbol_of}
+use Rattle.symbol_numbers.specs.Symbol.{SymbolNumber, symbol_of}
 
 -- the digit of a symbol's number, in ASCII; 45 is the minus sign
 abbrev pub digit_by : SymbolNumber → ℕ
-digit_by (Number n) = 48 + n
+digit_by (Some n) = 48 + n
 digit_by None = 45
 
 abbrev pub digit_of : CostasConstellation → C32 → ℕ

@@ -19,7 +19,7 @@ pub enum Content {
 fn is_finite(x: C32) -> bool
     ensures { result ≡ finite_both x }
 {
-    numbers::is_finite_f32(x.re) && numbers::is_finite_f32(x.im)
+    numbers::is_finite(x.re) && numbers::is_finite(x.im)
 }
 
 // Whether there is something to receive in a sample: it is finite and not silent.
@@ -38,8 +38,7 @@ fn see(before: Content, x: C32) -> Content
     }
     match before {
         Content::Empty => Content::Blank,
-        Content::Blank => Content::Blank,
-        Content::Signal => Content::Signal,
+        Content::Blank | Content::Signal => before,
     }
 }
 
@@ -48,10 +47,8 @@ pub fn content_with(before: Content, input: &[f32]) -> Content
     ensures { result ≡ content_with before (samples input.now) }
 {
     let mut content = before;
-    let mut k = 0;
-    while k < input.len() / 2 {
+    for k in 0..input.len() / 2 {
         content = see(content, values::sample_at(input, k));
-        k += 1;
     }
     content
 }

@@ -12,10 +12,9 @@ pub fn thousandths(x: f64) -> u64
     ensures { result ≡ thousandths_of x }
 {
     let t = x * 1000.0 + 0.5;
-    if t > BEFORE {
-        if t < BEYOND {
-            return std::num::truncating_f64_to_u64(t);
-        }
+    if t > BEFORE && t < BEYOND {
+        std::num::truncating_f64_to_u64(t)
+    } else {
+        0
     }
-    0
 }

@@ -3,9 +3,8 @@ ghost use Rattle.std.specs.Prelude.{◌≡◌, min, length};
 ghost use Rattle.std.proofs.lemmas.List.Edits.{sets};
 ghost use Rattle.recordings.specs.Text.{digit_of, digits};
 
-use crate::bytes::{least, put};
+use crate::text::put;
 use carrier::CostasConstellation;
-use symbol_numbers::SymbolNumber;
 use values::C32;
 
 const ZERO: u8 = b'0';
@@ -17,8 +16,8 @@ fn digit(constellation: CostasConstellation, y: C32) -> u8
     ensures { result ≡ digit_of constellation y }
 {
     match symbol_numbers::symbol_number(constellation, y) {
-        SymbolNumber::Number(n) => ZERO + (n as u8),
-        SymbolNumber::None => NONE,
+        Some(n) => ZERO + (n as u8),
+        None => NONE,
     }
 }
 
@@ -33,12 +32,10 @@ pub fn write_digits(
     ensures count { result ≡ min (length (digits constellation output.now n)) (length text.old) }
     ensures text { text.new ≡ sets text.old 0 (digits constellation output.now n) }
 {
-    let end = least(n, output.len() / 2);
-    let mut k = 0;
-    while k < end {
+    let end = n.min(output.len() / 2);
+    for k in 0..end {
         let y = values::sample_at(output, k);
         put(text, k, digit(constellation, y));
-        k += 1;
     }
-    least(end, text.len())
+    end.min(text.len())
 }

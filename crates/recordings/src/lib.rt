@@ -4,19 +4,18 @@
 // here requires anything.
 #![tactic(auto)]
 
-mod bytes;
 mod content;
 mod decimals;
 mod defaults;
 mod digits;
 mod lines;
 mod none;
-mod samples;
+mod text;
 
 pub use content::{Content, content_with};
 pub use decimals::thousandths;
 pub use defaults::{carrier_defaults, timing_defaults};
 pub use digits::write_digits;
 pub use lines::{WIDTH, write_lines};
+pub use little_endian::{read_samples, write_samples};
 pub use none::none_with;
-pub use samples::{read_samples, write_samples};

@@ -3,7 +3,7 @@ ghost use Rattle.std.specs.Prelude.{◌≡◌, min, length};
 ghost use Rattle.std.proofs.lemmas.List.Edits.{sets};
 ghost use Rattle.recordings.specs.Text.{lined};
 
-use crate::bytes::{least, put};
+use crate::text::put;
 
 // How many digits a line has.
 pub const WIDTH: u64 = 64;
@@ -19,10 +19,8 @@ pub fn write_lines(before: u64, digits: &[u8], text: &mut [u8]) -> usize
 {
     let mut column = before % WIDTH;
     let mut count = 0;
-    let mut i = 0;
-    while i < digits.len() {
-        put(text, count, digits[i]);
-        i += 1;
+    for digit in digits {
+        put(text, count, *digit);
         if column == LAST {
             put(text, count + 1, b'\n');
             count += 2;
@@ -32,5 +30,5 @@ pub fn write_lines(before: u64, digits: &[u8], text: &mut [u8]) -> usize
             column += 1;
         }
     }
-    least(count, text.len())
+    count.min(text.len())
 }

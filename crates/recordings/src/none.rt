@@ -3,7 +3,6 @@ ghost use Rattle.std.specs.Prelude.{◌≡◌, take};
 ghost use Rattle.values.specs.Samples.{samples};
 ghost use Rattle.recordings.specs.None.{none_after, none_with};
 
-use crate::bytes::least;
 use values::C32;
 
 // The count with one symbol more.
@@ -20,12 +19,10 @@ fn count(before: u64, y: C32) -> u64
 pub fn none_with(before: u64, output: &[f32], n: usize) -> u64
     ensures { result ≡ none_with before (take n (samples output.now)) }
 {
-    let end = least(n, output.len() / 2);
+    let end = n.min(output.len() / 2);
     let mut none = before;
-    let mut k = 0;
-    while k < end {
+    for k in 0..end {
         none = count(none, values::sample_at(output, k));
-        k += 1;
     }
     none
 }

@@ -1,9 +1,9 @@
--- When a recorded line agrees with what the calls before it left: `values` (the words of the next set-up, and how
--- many f32 were put in and how many compared) and the output. Definitions only.
-use Rattle.std.specs.Prelude.{ℕ, ◌+◌, ◌*◌, ◌^◌, Bool, true, false, cond, List, ◌==◌, nat_lt, slice_index, slice_index_or, to_bits, Float}
+-- When a recorded line agrees with the output that the calls before it left. Definitions only.
+use Rattle.std.specs.Prelude.{ℕ, ◌+◌, ◌*◌, ◌^◌, Bool, true, false, cond, List, ◌==◌, nat_lt, slice_index_or, to_bits, Float}
 use Rattle.std.specs.Float.{binary32, nan}
 use Rattle.answers.specs.declared.line.Operation.{Operation}
 use Rattle.answers.specs.Line.{has}
+use Rattle.replay.specs.declared.buffers.Buffers.{Buffers}
 
 -- six f32 of a line, two in each word, the first in its high half
 abbrev pub two_at : List Float → ℕ → ℕ
@@ -21,5 +21,5 @@ abbrev pub by_letter : {A : Type 0} → ℕ → A → A → A → A → A → A 
 by_letter c v i o r z other = cond (c == 118) v (cond (c == 105) i (cond (c == 111) o (cond (c == 114) r (cond (c == 122) z other))))
 
 -- false where the state has to say so
-abbrev pub agreed : Operation → List ℕ → List Float → Bool
-agreed op vs os = by_letter op.letter true true (same_six os (six_at (slice_index vs 4)) op) false (has op 0 0 0) false
+abbrev pub agreed : Operation → Buffers → Bool
+agreed op b = by_letter op.letter true true (same_six b.output (six_at b.compared) op) false (has op 0 0 0) false

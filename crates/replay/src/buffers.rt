@@ -6,24 +6,29 @@
 //   i  six f32, which go behind the input so far
 //   r  runs
 //   o  the next six f32 of the output, with the filling behind what was lent
-//
-// `values` has the three words of the next set-up, and how many f32 were put into the input and how
-// many of the output were compared.
-ghost use Rattle.std.specs.Prelude.{◌≡◌, ◌<◌, slice_index};
+ghost use Rattle.std.specs.Prelude.{◌≡◌, ◌/◌, ◌%◌, ◌^◌, ◌<◌, IfSome, is_none, ◌||◌, nat_lt, take};
 ghost use Rattle.replay.specs.Buffers.{two_at, same_six, six_at, agreed};
 
-use answers::{Operation, high, low, word, words_agree};
-use patterns::f32_of;
+use answers::{HIGH, Operation, high, low, word, words_agree};
+use patterns::of_bits;
 
-const INPUT: usize = 3;
-
-const OUTPUT: usize = 4;
+// The bits of the f32 that fills the output before a run: one that no ordinary signal makes.
+pub const FILLING: u32 = 0xdeadbeef;
 
 // Where the last six f32 of a buffer stand.
 const LAST_SIX: u64 = 186;
 
-// The bits of the f32 that fills the output before a run: one that no ordinary signal makes.
-pub const FILLING: u32 = 0xdeadbeef;
+// The three words of the next set-up; how many f32 were put into the input, and how many of the output were compared;
+// and the input and the output.
+#[derive(Clone, Copy)]
+pub struct Buffers {
+    // Three words, which each program reads in its own way.
+    pub set_up: [u64; 3],
+    pub taken: u64,
+    pub compared: u64,
+    pub input: [f32; 192],
+    pub output: [f32; 192],
+}
 
 fn put(input: &mut [f32; 192], k: usize, word: u64)
     requires { k < 191 }
@@ -59,58 +64,78 @@ fn six_agree(output: &[f32; 192], k: usize, op: Operation) -> bool
     )
 }
 
-// Where the line's six f32 stand in a buffer. What has no room comes to stand at its end.
-fn next_six(values: &mut [u64; 5], count: usize) -> usize
-    requires { count < 5 }
-    ensures place { result ≡ six_at (slice_index values.old count) }
+// Where the line's six f32 stand in a buffer, by the count so far. What has no room comes to stand at its end.
+fn next_six(count: &mut u64) -> usize
+    ensures place { result ≡ six_at count.old }
     ensures room { result < 187 }
 {
-    let at = values[count];
+    let at = *count;
     if at > LAST_SIX {
         return LAST_SIX as usize;
     }
-    values[count] = at + 6;
+    *count = at + 6;
     at as usize
 }
 
-fn next_set_up(values: &mut [u64; 5], op: Operation) {
-    values[0] = op.x;
-    values[1] = op.y;
-    values[2] = op.answer;
-}
+impl Buffers {
+    // Before the first line.
+    pub fn new() -> Self
+        ensures { (result.taken ≡ 0) × (result.compared ≡ 0) }
+    {
+        Buffers {
+            set_up: [0; 3],
+            taken: 0,
+            compared: 0,
+            input: [0.0; 192],
+            output: [0.0; 192],
+        }
+    }
 
-// Makes ready for a run, and for the input of the one after it.
-fn next_run(values: &mut [u64; 5], output: &mut [f32; 192]) {
-    values[INPUT] = 0;
-    values[OUTPUT] = 0;
-    *output = [f32_of(FILLING); 192];
-}
+    // Makes ready for a run, and for the input of the one after it.
+    fn next_run(&mut self) {
+        self.taken = 0;
+        self.compared = 0;
+        self.output = [of_bits(FILLING); 192];
+    }
 
-// Plays a line on the buffers. Answers whether it agrees, or false if the state has to say so.
-pub fn play(
-    op: Operation,
-    values: &mut [u64; 5],
-    input: &mut [f32; 192],
-    output: &mut [f32; 192],
-) -> bool
-    ensures { result ≡ agreed op values.old output.old }
-{
-    let letter = op.letter;
-    match letter {
-        b'v' => {
-            next_set_up(values, op);
-            true
+    // Plays a line on the buffers. Answers whether it agrees, or false if the state has to say so.
+    pub fn play(&mut self, op: Operation) -> bool
+        ensures { result ≡ agreed op self.old }
+    {
+        match op.letter {
+            b'v' => {
+                self.set_up = [op.x, op.y, op.answer];
+                true
+            }
+            b'i' => {
+                let at = next_six(&mut self.taken);
+                put_six(&mut self.input, at, op);
+                true
+            }
+            b'o' => {
+                let at = next_six(&mut self.compared);
+                six_agree(&self.output, at, op)
+            }
+            b'r' => {
+                self.next_run();
+                false
+            }
+            b'z' => words_agree(0, 0, 0, op),
+            _ => false,
         }
-        b'i' => {
-            put_six(input, next_six(values, INPUT), op);
-            true
+    }
+    // As much of the buffers as a run's line says, or nothing if they have less.
+    pub fn lend(&mut self, op: Operation) -> Option<(&[f32], &mut [f32])>
+        ensures lent { IfSome result (λ lent. (lent.0.now ≡ take (op.x % 2 ^ 32) self.old.input) × (lent.1.now ≡ take (op.x / 2 ^ 32) self.old.output)) }
+        ensures less { is_none result ≡ (nat_lt 192 (op.x % 2 ^ 32) || nat_lt 192 (op.x / 2 ^ 32)) }
+    {
+        let taken = (op.x % HIGH) as usize;
+        let places = (op.x / HIGH) as usize;
+        let input = &self.input;
+        let output = &mut self.output;
+        if taken > input.len() || places > output.len() {
+            return None;
         }
-        b'o' => six_agree(output, next_six(values, OUTPUT), op),
-        b'r' => {
-            next_run(values, output);
-            false
-        }
-        b'z' => words_agree(0, 0, 0, op),
-        _ => false,
+        Some((&input[..taken], &mut output[..places]))
     }
 }

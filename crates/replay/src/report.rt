@@ -1,13 +1,13 @@
 // Writing what was played. No contract can say what is written to a file, and a write that fails is passed over.
 
+// Bytes that need not be text.
 fn put(rt: &impl Print, bytes: &[u8]) {
     let _ = rt.write_all(bytes);
 }
 
 // Writes a line with a name and how many lines were played under it.
-pub(crate) fn count(rt: &impl Print, name: &[u8], n: u64) {
-    put(rt, name);
-    let _ = println!(rt; " {n}");
+pub(crate) fn count(rt: &impl Print, name: &str, n: u64) {
+    let _ = println!(rt; "{name} {n}");
 }
 
 // Writes the last line: how many answers there were, and how many of them differ.
@@ -23,13 +23,13 @@ pub fn differs(rt: &impl Print, line: &[u8], computed: u64) {
 
 // Writes a recorded line that says something else than was computed.
 pub(crate) fn missed(rt: &impl Print, line: &[u8]) {
-    put(rt, b"missed ");
+    let _ = print!(rt; "missed ");
     put(rt, line);
 }
 
 // Writes a line that is not an operation.
 pub fn malformed(rt: &impl Print, line: &[u8]) {
-    put(rt, b"malformed: ");
+    let _ = print!(rt; "malformed: ");
     put(rt, line);
-    put(rt, b"\n");
+    let _ = println!(rt; "");
 }

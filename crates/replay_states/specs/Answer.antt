@@ -1,8 +1,7 @@
 -- When the answer of a timing run is the one that a line says. Definitions only.
-use Rattle.std.specs.Prelude.{◌^◌, ◌/◌, ◌%◌, Bool, ◌&&◌, eqb}
+use Rattle.std.specs.Prelude.{◌^◌, ◌/◌, ◌%◌, Bool, ◌&&◌, eqb, Ok, Err}
 use Rattle.values.specs.declared.progress.Progress.{Progress}
-use Rattle.values.specs.declared.progress.Answer.{Answer}
-use Rattle.values.specs.declared.progress.Answer.TheVariants.{Done, Refused}
+use Rattle.values.specs.Answer.{Answer}
 use Rattle.values.specs.Refusal.{number_of}
 use Rattle.answers.specs.declared.line.Operation.{Operation}
 use Rattle.answers.specs.Line.{has}
@@ -12,5 +11,5 @@ abbrev pub same_progress : Progress → Operation → Bool
 same_progress p op = eqb p.consumed (op.y % 2 ^ 32) && (eqb p.produced (op.y / 2 ^ 32) && eqb op.answer 0)
 
 abbrev pub same_answer : Answer → Operation → Bool
-same_answer (Done p) op = same_progress p op
-same_answer (Refused n) op = has op op.x 0 (number_of n)
+same_answer (Ok p) op = same_progress p op
+same_answer (Err n) op = has op op.x 0 (number_of n)

@@ -5,7 +5,7 @@ use Rattle.std.specs.Float.Ieee.{of_bits, to_bits}
 use Rattle.ieee.specs.Alike.{same_number}
 use Rattle.values.specs.declared.sample.C32.{C32}
 use Rattle.timing.specs.Clock.{next_strobe}
-use Rattle.complex_sync.specs.declared.state.SymbolSyncState.{SymbolSyncState}
+use Rattle.complex_sync.specs.Views.{SymbolSyncState}
 use Rattle.carrier.specs.declared.state.CostasState.{CostasState}
 use Rattle.answers.specs.declared.line.Operation.{Operation}
 use Rattle.answers.specs.Line.{has}

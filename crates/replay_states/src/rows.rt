@@ -3,7 +3,7 @@ ghost use Rattle.std.specs.Prelude.{◌≡◌, ℕ};
 ghost use Rattle.replay_states.specs.Words.{same_row, forgiven, timing_words, carrier_words};
 
 use crate::words::{carrier_words, timing_words};
-use answers::{Operation, alike_f64, f64_of, words_agree};
+use answers::{Operation, alike, of_bits, words_agree};
 use carrier::CostasState;
 use complex_sync::SymbolSyncState;
 
@@ -25,13 +25,14 @@ fn forgive(words: [u64; 21], op: Operation) -> [u64; 21]
     ensures { result ≡ forgiven words op }
 {
     let mut all = words;
-    if alike_f64(f64_of(all[INTEGRATOR]), f64_of(op.x)) {
+    if alike::<f64>(of_bits(all[INTEGRATOR]), of_bits(op.x)) {
         all[INTEGRATOR] = op.x;
     }
     all
 }
 
-// The row of a timing state that a letter names, or one that there is not.
+// The row of a timing state that a letter names, or one that there is not. Kept as a number: `same_row` says what comes
+// of a row that is not there.
 fn timing_row(letter: u8) -> usize {
     match letter {
         b'a' => 0,

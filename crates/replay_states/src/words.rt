@@ -12,7 +12,7 @@
 ghost use Rattle.std.specs.Prelude.{◌≡◌};
 ghost use Rattle.replay_states.specs.Words.{flag_of, flags_of, timing_words, carrier_words};
 
-use answers::{f32_bits, f64_bits, word};
+use answers::{bits_of, word};
 use carrier::CostasState;
 use complex_sync::SymbolSyncState;
 use plain::{constellation_code, detector_code};
@@ -20,17 +20,13 @@ use plain::{constellation_code, detector_code};
 fn flag(b: bool) -> u64
     ensures { result ≡ flag_of b }
 {
-    if b { 1 } else { 0 }
+    u64::from(b)
 }
 
 fn flags(mid_ready: bool, started: bool) -> u64
     ensures { result ≡ flags_of mid_ready started }
 {
-    if started {
-        if mid_ready { 3 } else { 2 }
-    } else {
-        if mid_ready { 1 } else { 0 }
-    }
+    2 * flag(started) + flag(mid_ready)
 }
 
 // The rows a, b, k, s, h, y and f.
@@ -42,27 +38,27 @@ pub fn timing_words(s: SymbolSyncState) -> [u64; 21]
     let t = s.track;
     let c = t.clock;
     [
-        f64_bits(s.sps()),
-        f64_bits(s.loop_bw()),
-        f64_bits(s.damping()),
-        f64_bits(s.max_deviation()),
-        f64_bits(s.ted_gain()),
+        bits_of(s.sps()),
+        bits_of(s.loop_bw()),
+        bits_of(s.damping()),
+        bits_of(s.max_deviation()),
+        bits_of(s.ted_gain()),
         detector_code(s.ted()) as u64,
-        f64_bits(p.kp),
-        f64_bits(p.ki),
-        f64_bits(p.lim),
+        bits_of(p.kp),
+        bits_of(p.ki),
+        bits_of(p.lim),
         c.i as u64,
-        f64_bits(c.mu),
-        f64_bits(s.sps_estimate()),
+        bits_of(c.mu),
+        bits_of(s.sps_estimate()),
         word(h.a.re, h.a.im),
         word(h.b.re, h.b.im),
         word(h.c.re, h.c.im),
         word(t.y_prev.re, t.y_prev.im),
         word(t.d_prev.re, t.d_prev.im),
         word(t.mid.re, t.mid.im),
-        f64_bits(c.integ),
+        bits_of(c.integ),
         flags(t.mid_ready, t.started),
-        f64_bits(s.next_strobe()),
+        bits_of(s.next_strobe()),
     ]
 }
 
@@ -74,16 +70,16 @@ pub fn carrier_words(s: CostasState) -> [u64; 12]
     let p = s.params;
     let n = s.track.nco;
     [
-        f64_bits(s.loop_bw()),
-        f64_bits(s.damping()),
-        f64_bits(s.max_offset()),
-        f32_bits(p.kp) as u64,
-        f32_bits(p.ki) as u64,
-        f32_bits(p.max) as u64,
+        bits_of(s.loop_bw()),
+        bits_of(s.damping()),
+        bits_of(s.max_offset()),
+        bits_of(p.kp) as u64,
+        bits_of(p.ki) as u64,
+        bits_of(p.max) as u64,
         s.phase() as u64,
-        f32_bits(n.freq) as u64,
-        f64_bits(s.frequency()),
-        f32_bits(s.lock_level()) as u64,
+        bits_of(n.freq) as u64,
+        bits_of(s.frequency()),
+        bits_of(s.lock_level()) as u64,
         flag(s.locked()),
         constellation_code(s.constellation()) as u64,
     ]

@@ -1,6 +1,6 @@
 -- A sample call: when it is refused, and with what number, counts, receiver and buffers it ends. Definitions only.
 use Rattle.std.specs.Prelude.{ℕ, ◌*◌, Bool, not, ◌&&◌, ◌||◌, cond, List, eqb, length, take, Float}
-use Rattle.values.specs.declared.progress.Answer.{Answer}
+use Rattle.values.specs.Answer.{Answer}
 use Rattle.values.specs.declared.error.Refusal.{Refusal}
 use Rattle.values.specs.declared.error.Refusal.TheVariants.{Uneven, Odd}
 use Rattle.values.specs.Refusal.{number_of}
@@ -8,7 +8,6 @@ use Rattle.values.specs.Answer as answer
 use Rattle.values.specs.Counter.{count_after}
 use Rattle.values.specs.Buffers.{written, odd_either, odd}
 use Rattle.timing.specs.Run.{done_complex}
-use Rattle.complex_sync.specs.Views.{sync, state_of}
 use Rattle.carrier.specs.Run as carrier
 use Rattle.receiver.specs.Record.{Receiver}
 use Rattle.sample_calls.specs.declared.call.Ran.{Ran}
@@ -37,13 +36,13 @@ refused_call n r zs ys = record { number = number_of n; consumed = 0; produced =
 -- symbol count grows by what is produced (R18)
 unfoldable pub done : Receiver → List Float → List Float → List Float → Outcome
 done r xs zs ys =
-    let t = done_complex (sync r.timing) xs zs in
+    let t = done_complex r.timing xs zs in
     let c = carrier.done r.carrier (take (2 * t.produced) t.output) in
     record {
       number = 0;
       consumed = t.consumed;
       produced = t.produced;
-      receiver = record { timing = state_of t.state; carrier = c.state; count = count_after r.count t.produced };
+      receiver = record { timing = t.state; carrier = c.state; count = count_after r.count t.produced };
       strobes = t.output;
       output = written c.output ys;
     }

@@ -1,25 +1,23 @@
 -- Q4 to Q9: a list of sample calls, each on the receiver that the call before left, and what is claimed of a second
 -- list, which is the first turned k times, from a receiver whose carrier is m quarter turns on. Definitions only.
-use Rattle.std.specs.Prelude.{◌≡◌, ℕ, ◌+◌, ◌*◌, ◌/◌, Bool, true, List, [], ◌∷◌, ◌++◌, length, take, drop, Float}
+use Rattle.std.specs.Prelude.{◌≡◌, ℕ, ◌+◌, ◌*◌, ◌/◌, Bool, true, List, [], ◌∷◌, ◌++◌, length, take, drop, Float, Ok}
 use Rattle.values.specs.declared.sample.C32.{C32}
 use Rattle.values.specs.Samples.{samples, parts}
 use Rattle.lists.specs.Each.{Each}
 use Rattle.values.specs.Calls.{outcomes_by, after_by}
 use Rattle.values.specs.Turn.{turns_all, AllTurned}
 use Rattle.timing.specs.Calls.{SameClock}
-use Rattle.complex_sync.specs.Views.{sync}
 use Rattle.constellations.specs.declared.kinds.CostasConstellation.{CostasConstellation}
 use Rattle.carrier.specs.Calls.{turns_less, SameCarrier}
-use Rattle.receiver.specs.declared.record.TimingValues.{TimingValues}
-use Rattle.receiver.specs.declared.record.CarrierValues.{CarrierValues}
-use Rattle.receiver.specs.declared.record.SetUp.TheVariants.{Ready}
+use Rattle.timing.specs.declared.params.TimingValues.{TimingValues}
+use Rattle.carrier.specs.declared.params.CarrierValues.{CarrierValues}
 use Rattle.receiver.specs.Record.{Receiver, opened, restarted, SetUpWith, Given}
 use Rattle.sample_calls.specs.Call.{Outcome, called, accepts}
 
 -- ---- which receivers the lists start from
 -- Q4: a fresh receiver, whose last step was a set-up with these values or a reset
 pub data Fresh (k : CostasConstellation) (t : TimingValues) (c : CarrierValues) : Receiver → Type 0 where
-  just-set-up : {r : Receiver} → opened k t c ≡ Ready r → Fresh k t c r
+  just-set-up : {r : Receiver} → opened k t c ≡ Ok r → Fresh k t c r
   -- whatever it has received before
   just-reset : (r : Receiver) → Given r → SetUpWith k t c r → Fresh k t c (restarted r)
 
@@ -84,7 +82,7 @@ pub record TurnedOutcome (k m : ℕ) (q r : Outcome) : Type 0 where
 -- Q7, after the lists: what is equal of the two receivers, and how far apart their phases are
 pub record SameReceiver (m : ℕ) (r s : Receiver) : Type 0 where
   pub count : s.count ≡ r.count
-  pub clock : SameClock (sync r.timing) (sync s.timing)
+  pub clock : SameClock r.timing s.timing
   pub carrier : SameCarrier m r.carrier s.carrier
 
 -- Q9: the one statement about two lists of calls, from the receivers r and s

@@ -1,16 +1,15 @@
 // A sample call: timing writes strobes to one buffer, and of these the carrier writes symbols to another.
 ghost use Rattle.std.specs.Prelude.{◌≡◌, length};
-ghost use Rattle.values.specs.declared.progress.Answer.TheVariants.{Refused};
 ghost use Rattle.receiver.specs.Record.{Given};
 ghost use Rattle.sample_calls.specs.Call.{done, called, outcome_of, answered};
 
 use receiver::Receiver;
-use values::{Answer, Refusal, counted};
+use values::{Progress, Refusal, counted};
 
 // The answer of a sample call, and the receiver after it.
 #[derive(Clone, Copy)]
 pub struct Ran {
-    pub answer: Answer,
+    pub answer: Result<Progress, Refusal>,
     pub receiver: Receiver,
 }
 
@@ -34,21 +33,22 @@ fn accepted(r: Receiver, input: &[f32], strobes: &mut [f32], output: &mut [f32])
         count: counted(r.count, produced),
     };
     Ran {
-        answer: Answer::Done(progress),
+        answer: Ok(progress),
         receiver: receiver,
     }
 }
 
 // A refused call.
 fn refused(n: Refusal, r: Receiver) -> Ran
-    ensures { result ≡ record { answer = Refused n; receiver = r } }
+    ensures { result ≡ record { answer = Err n; receiver = r } }
 {
     Ran {
-        answer: Answer::Refused(n),
+        answer: Err(n),
         receiver: r,
     }
 }
 
+// Input, strobes and output travel one by one, here and wherever a call is made: the C interface has them so.
 // R10, R15: one call. An odd count of f32 in any buffer is refused, then a strobe buffer that is not as long as
 // the output, with the same receiver and every buffer as found.
 pub fn run(r: Receiver, input: &[f32], strobes: &mut [f32], output: &mut [f32]) -> Ran
@@ -66,7 +66,12 @@ pub fn run(r: Receiver, input: &[f32], strobes: &mut [f32], output: &mut [f32]) 
 }
 
 // R2, R15: one call over a receiver that the caller lends, and that the call replaces by the new one.
-pub fn receive(r: &mut Receiver, input: &[f32], strobes: &mut [f32], output: &mut [f32]) -> Answer
+pub fn receive(
+    r: &mut Receiver,
+    input: &[f32],
+    strobes: &mut [f32],
+    output: &mut [f32],
+) -> Result<Progress, Refusal>
     requires { Given r.old }
     ensures outcome { outcome_of result r.new strobes.new output.new ≡ called r.old input.now strobes.old output.old }
     ensures given { Given r.new }

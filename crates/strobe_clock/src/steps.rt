@@ -58,10 +58,10 @@ fn step_on(p: Params, c: Clock, e: f64) -> Clock
     requires { On c.i (moved p c e) }
     ensures { result ≡ advanced p c e }
 {
-    let integ = numbers::limit_f64(numbers::flush_denormal_f64(c.integ + p.ki * e), p.lim);
+    let integ = numbers::limit(numbers::flush_denormal(c.integ + p.ki * e), p.lim);
     let omega = p.sps + integ;
     let q = omega * 0.25;
-    let v = (c.mu + omega) + numbers::limit_f64(p.kp * e, q);
+    let v = (c.mu + omega) + numbers::limit(p.kp * e, q);
     let f = numbers::floor(v);
     let i = c.i + count(f);
     Clock {
@@ -118,5 +118,5 @@ pub fn consumed(c: Clock, lacks: bool, n: usize) -> usize
     } else {
         c.i
     };
-    if pending - 1 < n { pending - 1 } else { n }
+    (pending - 1).min(n)
 }

@@ -1,5 +1,5 @@
 -- R11 to R13 and R16: the number of a symbol, or none. Definitions only.
-use Rattle.std.specs.Prelude.{◌≡◌, ℕ, ◌/◌, Bool, ◌&&◌, ◌||◌, cond}
+use Rattle.std.specs.Prelude.{◌≡◌, ℕ, ◌/◌, Bool, ◌&&◌, ◌||◌, cond, Option, Some, None}
 use Rattle.std.specs.Float.{nan}
 use Rattle.std.specs.Float.Ieee.{lt, eq, is_nan}
 use Rattle.ieee.specs.Notation.{zero₀}
@@ -9,8 +9,10 @@ use Rattle.values.specs.Turn.{AlikeSample}
 use Rattle.constellations.specs.declared.kinds.CostasConstellation.{CostasConstellation}
 use Rattle.constellations.specs.declared.kinds.CostasConstellation.TheVariants.{Bpsk, Qpsk, Psk8}
 use Rattle.constellations.specs.Octant.{octant_of}
-use Rattle.symbol_numbers.specs.declared.symbol.SymbolNumber.{SymbolNumber}
-use Rattle.symbol_numbers.specs.declared.symbol.SymbolNumber.TheVariants.{Number, None}
+
+-- R16: what a sample is read as: its number, or none
+abbrev pub SymbolNumber : Type 0
+SymbolNumber = Option ℕ
 
 -- R11: 1 in the left half plane and on the lower half of the imaginary axis
 unfoldable pub bpsk_of : C32 → ℕ
@@ -34,7 +36,7 @@ no_symbol y = silent y || any_nan y
 
 -- R16: none, or the number of R11 to R13
 unfoldable pub symbol_of : CostasConstellation → C32 → SymbolNumber
-symbol_of c y = cond (no_symbol y) None (Number (sector_of c y))
+symbol_of c y = cond (no_symbol y) None (Some (sector_of c y))
 
 -- as many numbers as the constellation has points
 abbrev pub point_count : CostasConstellation → ℕ

@@ -1,10 +1,8 @@
 -- Q12: what quarter turns of a sample make of its reading. Definitions only.
-use Rattle.std.specs.Prelude.{◌≡◌, true, ℕ, ◌+◌, ◌*◌, ◌/◌, ◌%◌, T}
+use Rattle.std.specs.Prelude.{◌≡◌, true, ℕ, ◌+◌, ◌*◌, ◌/◌, ◌%◌, T, Some, None}
 use Rattle.constellations.specs.declared.kinds.CostasConstellation.{CostasConstellation}
 use Rattle.constellations.specs.declared.kinds.CostasConstellation.TheVariants.{Bpsk, Qpsk, Psk8}
-use Rattle.symbol_numbers.specs.declared.symbol.SymbolNumber.{SymbolNumber}
-use Rattle.symbol_numbers.specs.declared.symbol.SymbolNumber.TheVariants.{Number, None}
-use Rattle.symbol_numbers.specs.Symbol.{point_count}
+use Rattle.symbol_numbers.specs.Symbol.{SymbolNumber, point_count}
 
 -- Q12: what j quarter turns add to a number
 abbrev pub numbers_on : CostasConstellation → ℕ → ℕ
@@ -21,4 +19,4 @@ Onto Psk8 j = T true
 -- Q12: none stays none, and a number grows, modulo the count of points
 abbrev pub turned_number : CostasConstellation → ℕ → SymbolNumber → SymbolNumber
 turned_number c j None = None
-turned_number c j (Number n) = Number ((n + numbers_on c j) % point_count c)
+turned_number c j (Some n) = Some ((n + numbers_on c j) % point_count c)

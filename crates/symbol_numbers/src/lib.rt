@@ -3,4 +3,4 @@
 
 mod symbol;
 
-pub use symbol::{SymbolNumber, is_none, is_silent, symbol_number};
+pub use symbol::{is_none, is_silent, symbol_number};

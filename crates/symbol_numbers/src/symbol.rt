@@ -5,15 +5,6 @@ ghost use Rattle.symbol_numbers.specs.Symbol.{silent, any_nan, no_symbol, bpsk_o
 use constellations::CostasConstellation;
 use values::C32;
 
-// R16: what an output sample is read as.
-#[derive(Clone, Copy)]
-pub enum SymbolNumber {
-    // Below 2 under BPSK, below 4 under QPSK, below 8 under 8-PSK.
-    Number(usize),
-    // Silence, or a part is NaN.
-    None,
-}
-
 // Whether both parts are zero, of either sign.
 pub fn is_silent(y: C32) -> bool
     ensures { result ≡ silent y }
@@ -63,11 +54,11 @@ fn sector(constellation: CostasConstellation, y: C32) -> usize
 }
 
 // R16: the number of an output sample, or none.
-pub fn symbol_number(constellation: CostasConstellation, y: C32) -> SymbolNumber
+pub fn symbol_number(constellation: CostasConstellation, y: C32) -> Option<usize>
     ensures { result ≡ symbol_of constellation y }
 {
     if is_none(y) {
-        return SymbolNumber::None;
+        return None;
     }
-    SymbolNumber::Number(sector(constellation, y))
+    Some(sector(constellation, y))
 }

@@ -4,3 +4,4 @@ pub mod Steps
 pub mod Calls
 pub mod Reads
 pub mod Wanted
+pub mod Commands

@@ -1,8 +1,7 @@
 -- Which loops a tape has set up: what a set-up, and a reset, make of it; and what holds of it. Definitions only.
 use Rattle.std.specs.Prelude.{true, T}
 use Rattle.timing.specs.Run as timing
-use Rattle.complex_sync.specs.declared.state.SymbolSyncState.{SymbolSyncState}
-use Rattle.complex_sync.specs.Views.{sync}
+use Rattle.complex_sync.specs.Views.{SymbolSyncState}
 use Rattle.carrier.specs.declared.state.CostasState.{CostasState}
 use Rattle.carrier.specs.State as carrier
 use Rattle.receiver.specs.Record as receiver
@@ -27,6 +26,6 @@ with_carrier (Both r) c = Both (carrier_put r c)
 -- A9: what is there is given
 abbrev pub Given : Desk → Type 0
 Given Empty = T true
-Given (Timing s) = timing.Given (sync s)
+Given (Timing s) = timing.Given s
 Given (Carrier c) = carrier.Given c
 Given (Both r) = receiver.Given r

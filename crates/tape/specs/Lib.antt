@@ -2,3 +2,4 @@ pub mod Reading
 pub mod Reads
 pub mod Desk
 pub mod Steps
+pub mod Command

@@ -4,8 +4,8 @@ use Rattle.little_endian.specs.Bytes.{little_endian}
 use Rattle.little_endian.specs.Samples.{double_at, floats}
 use Rattle.timing.specs.declared.params.Ted.{Ted}
 use Rattle.constellations.specs.declared.kinds.CostasConstellation.{CostasConstellation}
-use Rattle.receiver.specs.declared.record.TimingValues.{TimingValues}
-use Rattle.receiver.specs.declared.record.CarrierValues.{CarrierValues}
+use Rattle.timing.specs.declared.params.TimingValues.{TimingValues}
+use Rattle.carrier.specs.declared.params.CarrierValues.{CarrierValues}
 use Rattle.plain.specs.Codes.{detector_of, detector_named, constellation_of, constellation_named}
 
 -- ---- O2: the fields, by their places

@@ -1,13 +1,11 @@
 -- O4 to O9: what is done with a command as soon as it is read, and what it puts out. Definitions only.
-use Rattle.std.specs.Prelude.{ℕ, ◌*◌, true, List, [], T, length, take, replicate, Float}
+use Rattle.std.specs.Prelude.{ℕ, ◌*◌, true, List, [], T, length, take, replicate, Float, Ok, Err}
 use Rattle.ieee.specs.Notation.{zero₀}
 use Rattle.values.specs.declared.error.Refusal.{Refusal}
 use Rattle.values.specs.declared.error.Refusal.TheVariants.{Undefined, Early}
 use Rattle.little_endian.specs.Samples.{whole_samples}
-use Rattle.complex_sync.specs.declared.state.SetUp as timingAnswer
-use Rattle.complex_sync.specs.declared.state.SetUp.TheVariants as timingSetUp
-use Rattle.carrier.specs.declared.state.SetUp as carrierAnswer
-use Rattle.carrier.specs.declared.state.SetUp.TheVariants as carrierSetUp
+use Rattle.complex_sync.specs.Views.{SetUp as TimingSetUp}
+use Rattle.carrier.specs.State.{SetUp as CarrierSetUp}
 use Rattle.receiver.specs.Record.{Receiver, restarted}
 use Rattle.receiver.specs.Loops.{timing_opened, carrier_opened}
 use Rattle.sample_calls.specs.Call.{Outcome, called}
@@ -29,13 +27,13 @@ pub data Stepped : Type 0 where
   refused : Refusal → ℕ → Stepped
 
 -- O4, O7: a set-up, by the answer of the receiver's checks for its own loop
-abbrev pub carrier_answered : Desk → carrierAnswer.SetUp → Stepped
-carrier_answered d (carrierSetUp.Ready c) = done (with_carrier d c) 26 []
-carrier_answered d (carrierSetUp.Refused n) = refused n 26
+abbrev pub carrier_answered : Desk → CarrierSetUp → Stepped
+carrier_answered d (Ok c) = done (with_carrier d c) 26 []
+carrier_answered d (Err n) = refused n 26
 
-abbrev pub timing_answered : Desk → timingAnswer.SetUp → Stepped
-timing_answered d (timingSetUp.Ready s) = done (with_timing d s) 42 []
-timing_answered d (timingSetUp.Refused n) = refused n 42
+abbrev pub timing_answered : Desk → TimingSetUp → Stepped
+timing_answered d (Ok s) = done (with_timing d s) 42 []
+timing_answered d (Err n) = refused n 42
 
 -- E11: what needs both loops, behind so many bytes
 abbrev pub with_both : Desk → ℕ → (Receiver → Stepped) → Stepped

@@ -17,7 +17,8 @@ pub struct Stop {
     pub read: usize,
 }
 
-// What comes of the bytes of a command that were read so far.
+// What comes of the bytes of a command that were read so far. Kept as three outcomes: a Result would hold an enum of two,
+// and whoever reads a step decides between all three, so it says it no plainer.
 #[derive(Clone, Copy)]
 pub enum Step {
     // Its next field wants so many bytes more.

@@ -1,7 +1,6 @@
 // Which loops a tape has set up, and the receiver once both are there.
 ghost use Rattle.std.specs.Prelude.{◌≡◌};
 ghost use Rattle.timing.specs.Run.{Given as GivenTiming};
-ghost use Rattle.complex_sync.specs.Views.{sync};
 ghost use Rattle.carrier.specs.State.{Given as GivenCarrier};
 ghost use Rattle.tape.specs.Desk.{with_timing, with_carrier, Given};
 
@@ -25,7 +24,7 @@ pub enum Desk {
 // O7: a timing loop that is just set up. It replaces the one that was there; with a carrier it makes a receiver.
 pub(crate) fn with_timing(desk: Desk, timing: SymbolSyncState) -> Desk
     requires given_2 { Given desk }
-    requires timing { GivenTiming (sync timing) }
+    requires timing { GivenTiming timing }
     ensures desk { result ≡ with_timing desk timing }
     ensures given { Given result }
 {

@@ -6,16 +6,6 @@ use little_endian::{f64_at, little_endian};
 use receiver::{CarrierValues, TimingValues};
 use timing::Ted;
 
-// ---- Command bytes
-
-pub(crate) const CARRIER: u8 = 0x01;
-
-pub(crate) const TIMING: u8 = 0x02;
-
-pub(crate) const SAMPLES: u8 = 0x03;
-
-pub(crate) const RESET: u8 = 0x04;
-
 // ---- How many bytes a command has behind which field
 
 pub(crate) const COMMAND_END: usize = 1;

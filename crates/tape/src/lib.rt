@@ -4,6 +4,7 @@
 #![tactic(auto)]
 
 mod answer;
+mod command;
 mod desk;
 mod fields;
 mod steps;

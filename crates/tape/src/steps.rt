@@ -8,14 +8,15 @@ ghost use Rattle.tape.specs.Desk.{Given};
 ghost use Rattle.tape.specs.Steps.{places, symbol_parts, sampled, refused as refusedWith, acted, stepped, answer_of, symbols_of, sent_of, StepGiven};
 
 use crate::answer::{Carried, Step, Stop};
+use crate::command::Command;
 use crate::desk::{Desk, with_carrier, with_timing};
 use crate::fields::{
-    CARRIER, CARRIER_END, COMMAND_END, COUNT_END, LARGEST_COUNT, PARTS, RESET, SAMPLE, SAMPLES,
-    SELECTOR_END, TIMING, TIMING_END, carrier_values, count_of, timing_values,
+    CARRIER_END, COMMAND_END, COUNT_END, LARGEST_COUNT, PARTS, SAMPLE, SELECTOR_END, TIMING_END,
+    carrier_values, count_of, timing_values,
 };
 use little_endian::{read_samples, write_samples};
 use receiver::Receiver;
-use values::{Refusal, counts_of};
+use values::{Counts, Refusal};
 
 // A refusal behind so many bytes.
 fn refuse(reason: Refusal, read: usize) -> Step
@@ -56,8 +57,8 @@ fn carrier_step(desk: Desk, bytes: &[u8]) -> Step
     }
     let answer = receiver::set_up_carrier(plain::constellation(code), carrier_values(bytes));
     match answer {
-        carrier::SetUp::Ready(c) => silent(with_carrier(desk, c), CARRIER_END),
-        carrier::SetUp::Refused(n) => refuse(n, CARRIER_END),
+        Ok(c) => silent(with_carrier(desk, c), CARRIER_END),
+        Err(n) => refuse(n, CARRIER_END),
     }
 }
 
@@ -79,8 +80,8 @@ fn timing_step(desk: Desk, bytes: &[u8]) -> Step
     }
     let answer = receiver::set_up_timing(timing_values(bytes, plain::detector(code)));
     match answer {
-        complex_sync::SetUp::Ready(t) => silent(with_timing(desk, t), TIMING_END),
-        complex_sync::SetUp::Refused(n) => refuse(n, TIMING_END),
+        Ok(t) => silent(with_timing(desk, t), TIMING_END),
+        Err(n) => refuse(n, TIMING_END),
     }
 }
 
@@ -103,7 +104,7 @@ fn send(r: Receiver, input: &[f32], output: &mut [u8]) -> Sent
     let ran = sample_calls::run(r, input, &mut strobes, &mut symbols);
     let answer = ran.answer;
     let receiver = ran.receiver;
-    let parts = 2 * counts_of(answer).produced;
+    let parts = 2 * Counts::from(answer).produced;
     Sent {
         receiver: receiver,
         written: SAMPLE * write_samples(&symbols[..parts], output),
@@ -195,18 +196,11 @@ pub fn step(desk: Desk, bytes: &[u8], output: &mut [u8]) -> Step
     if bytes.len() < COMMAND_END {
         return Step::Wants(COMMAND_END - bytes.len());
     }
-    let command = bytes[0];
-    if command == CARRIER {
-        return carrier_step(desk, bytes);
+    match Command::try_from(bytes[0]) {
+        Ok(Command::Carrier) => carrier_step(desk, bytes),
+        Ok(Command::Timing) => timing_step(desk, bytes),
+        Ok(Command::Samples) => samples_step(desk, bytes, output),
+        Ok(Command::Reset) => reset_step(desk),
+        Err(reason) => refuse(reason, COMMAND_END),
     }
-    if command == TIMING {
-        return timing_step(desk, bytes);
-    }
-    if command == SAMPLES {
-        return samples_step(desk, bytes, output);
-    }
-    if command == RESET {
-        return reset_step(desk);
-    }
-    refuse(Refusal::Undefined, COMMAND_END)
 }

@@ -17,8 +17,8 @@ agreed f l e ys =
     && same_words (take e.output ys) (recorded f l))
 
 -- both times
-abbrev pub agreed_twice : Frame → List ℕ → Twice → List ℕ → List ℕ → Bool
-agreed_twice f l t ys zs = agreed f l t.at_once.ending ys && agreed f l t.by_field.ending zs
+abbrev pub agreed_twice : Frame → List ℕ → Twice → Bool
+agreed_twice f l t = agreed f l t.at_once.ending t.at_once.output && agreed f l t.by_field.ending t.by_field.output
 
 -- a number's place in the tally: itself, and the malformed lines' where there is no such number
 abbrev pub number_place : ℕ → ℕ

@@ -1,4 +1,3 @@
 pub mod Frame
-pub mod Window
 pub mod Play
 pub mod Compare

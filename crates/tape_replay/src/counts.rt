@@ -1,65 +1,95 @@
 // What is counted, and what is written of it.
 ghost use Rattle.std.specs.Prelude.{◌≡◌, ◌+◌, ◌^◌, ◌<◌};
-ghost use Rattle.replay.specs.Tally.{counted, Tallied};
+ghost use Rattle.replay.specs.Tally.{counted, none_counted, Tallied};
 ghost use Rattle.tape_replay.specs.Compare.{number_place};
 
 use crate::frame::Frame;
 use crate::play::Twice;
-use replay::tally;
-use replay::tally::show_at;
-use std::num::wrapping_add_u64;
+use replay::tally::Tally;
 
 // How many numbers there are: 0 to 11.
 const NUMBERS: u64 = 12;
 
-// The sums over the frames: how many there were, the bytes of their tapes and outputs, and the calls that the tapes
-// took, handed at once and field by field.
-#[derive(Clone, Copy)]
-pub(crate) struct Sums {
+const NAMES: [&str; 12] = [
+    "number_0",
+    "number_1",
+    "number_2",
+    "number_3",
+    "number_4",
+    "number_5",
+    "number_6",
+    "number_7",
+    "number_8",
+    "number_9",
+    "number_10",
+    "number_11",
+];
+
+// What is counted: how many frames there were, the bytes of their tapes and outputs, and the calls that the tapes
+// took, handed at once and field by field; and the tallies of the frames and of the damaged ones.
+#[derive(Drop)]
+pub(crate) struct Counts {
     pub frames: u64,
     pub tape: u64,
     pub output: u64,
     pub at_once: u64,
     pub by_field: u64,
+    pub tally: Tally,
+    pub damaged: Tally,
 }
 
-pub(crate) fn nothing() -> Sums
-    ensures { result.frames ≡ 0 }
-{
-    Sums {
-        frames: 0,
-        tape: 0,
-        output: 0,
-        at_once: 0,
-        by_field: 0,
+impl Counts {
+    pub(crate) fn nothing() -> Counts
+        ensures frames { result.frames ≡ 0 }
+        ensures tally { result.tally ≡ none_counted }
+    {
+        Counts {
+            frames: 0,
+            tape: 0,
+            output: 0,
+            at_once: 0,
+            by_field: 0,
+            tally: Tally::new(),
+            damaged: Tally::of_damaged(),
+        }
     }
-}
 
-// With a frame that was played.
-pub(crate) fn with_frame(sums: Sums, frame: Frame, twice: Twice) -> Sums
-    requires { sums.frames < 2 ^ 26 }
-    ensures { result.frames ≡ sums.frames + 1 }
-{
-    Sums {
-        frames: sums.frames + 1,
-        tape: wrapping_add_u64(sums.tape, frame.tape as u64),
-        output: wrapping_add_u64(sums.output, frame.ending.output as u64),
-        at_once: wrapping_add_u64(sums.at_once, twice.at_once.calls),
-        by_field: wrapping_add_u64(sums.by_field, twice.by_field.calls),
+    // Sums up a frame that was played. That there are fewer than 2^26 so far is a clause: only the loop that counts its
+    // turns knows it.
+    pub(crate) fn add_frame(&mut self, frame: Frame, twice: &Twice)
+        requires { self.old.frames < 2 ^ 26 }
+        ensures frames { self.new.frames ≡ self.old.frames + 1 }
+        ensures tally { self.new.tally ≡ self.old.tally }
+    {
+        self.frames += 1;
+        self.tape = self.tape.wrapping_add(frame.tape as u64);
+        self.output = self.output.wrapping_add(frame.ending.output as u64);
+        self.at_once = self.at_once.wrapping_add(twice.at_once.calls);
+        self.by_field = self.by_field.wrapping_add(twice.by_field.calls);
     }
-}
 
-// With a frame that is malformed.
-pub(crate) fn with_malformed(sums: Sums) -> Sums
-    requires { sums.frames < 2 ^ 26 }
-    ensures { result.frames ≡ sums.frames + 1 }
-{
-    Sums {
-        frames: sums.frames + 1,
-        tape: sums.tape,
-        output: sums.output,
-        at_once: sums.at_once,
-        by_field: sums.by_field,
+    // Counts a malformed frame, which differs, and writes it if it is one of the first.
+    pub(crate) fn add_malformed(&mut self, rt: &impl Print)
+        requires { self.old.frames < 2 ^ 26 }
+        ensures frames { self.new.frames ≡ self.old.frames + 1 }
+        ensures tallied { Tallied 1 self.old.tally self.new.tally }
+    {
+        report(rt, &self.tally, self.frames, false);
+        self.tally.count(Tally::MALFORMED, false);
+        self.frames += 1;
+    }
+
+    // Writes the counts.
+    pub(crate) fn show(&self, rt: &impl Print) {
+        line(rt, "frames", self.frames);
+        line(rt, "tape_bytes", self.tape);
+        line(rt, "output_bytes", self.output);
+        line(rt, "calls_at_once", self.at_once);
+        line(rt, "calls_by_field", self.by_field);
+        for (number, name) in NAMES.iter().enumerate() {
+            self.tally.show_at(rt, number, name);
+        }
+        self.tally.show_end(rt, &self.damaged);
     }
 }
 
@@ -70,65 +100,26 @@ fn place(number: u64) -> usize
     if number < NUMBERS {
         number as usize
     } else {
-        tally::MALFORMED
+        Tally::MALFORMED
     }
 }
 
-// Counts a frame by its number.
-pub(crate) fn count(tally: &mut [u64; 16], number: u64, agrees: bool)
+// Counts a frame by its number, which is the one that the frame records.
+pub(crate) fn count(tally: &mut Tally, number: u64, agrees: bool)
     ensures tallied { Tallied 1 tally.old tally.new }
     ensures counted { tally.new ≡ counted tally.old (number_place number) agrees }
 {
-    tally::count(tally, place(number), agrees);
-}
-
-// Counts a malformed frame, which differs, and writes it if it is one of the first.
-pub(crate) fn malformed(rt: &impl Print, tally: &mut [u64; 16], index: u64)
-    ensures { Tallied 1 tally.old tally.new }
-{
-    report(rt, tally, index, false);
-    tally::count(tally, tally::MALFORMED, false);
+    tally.count(place(number), agrees);
 }
 
 // ---- What is written. No contract can say what that is. A write that fails is passed over.
-fn write(rt: &impl Print, text: &[u8]) {
-    let _ = rt.write_all(text);
-}
-
-fn line(rt: &impl Print, name: &[u8], n: u64) {
-    write(rt, name);
-    let _ = println!(rt; " {n}");
+fn line(rt: &impl Print, name: &str, n: u64) {
+    let _ = println!(rt; "{name} {n}");
 }
 
 // Writes which frame differs, if it does and is one of the first.
-pub(crate) fn report(rt: &impl Print, tally: &[u64; 16], index: u64, agrees: bool) {
-    if !agrees && tally::shows_more(tally) {
-        line(rt, b"missed frame", index);
+pub(crate) fn report(rt: &impl Print, tally: &Tally, index: u64, agrees: bool) {
+    if !agrees && tally.shows_more() {
+        line(rt, "missed frame", index);
     }
-}
-
-fn show_numbers(rt: &impl Print, tally: &[u64; 16]) {
-    show_at(rt, tally, 0, b"number_0");
-    show_at(rt, tally, 1, b"number_1");
-    show_at(rt, tally, 2, b"number_2");
-    show_at(rt, tally, 3, b"number_3");
-    show_at(rt, tally, 4, b"number_4");
-    show_at(rt, tally, 5, b"number_5");
-    show_at(rt, tally, 6, b"number_6");
-    show_at(rt, tally, 7, b"number_7");
-    show_at(rt, tally, 8, b"number_8");
-    show_at(rt, tally, 9, b"number_9");
-    show_at(rt, tally, 10, b"number_10");
-    show_at(rt, tally, 11, b"number_11");
-}
-
-// Writes the counts.
-pub(crate) fn show(rt: &impl Print, sums: Sums, tally: &[u64; 16], damaged: &[u64; 16]) {
-    line(rt, b"frames", sums.frames);
-    line(rt, b"tape_bytes", sums.tape);
-    line(rt, b"output_bytes", sums.output);
-    line(rt, b"calls_at_once", sums.at_once);
-    line(rt, b"calls_by_field", sums.by_field);
-    show_numbers(rt, tally);
-    tally::show_end(rt, tally, damaged);
 }

@@ -20,6 +20,7 @@ const LENGTH: usize = 12;
 pub(crate) const WORDS: usize = 16;
 
 // How a tape ends: its number, 0 where nothing is refused; its stopping place; and how many bytes of output it gave.
+// Kept as a number: it is the word that the frame records, which `agreed` compares, and may name no refusal.
 #[derive(Clone, Copy)]
 pub(crate) struct Ending {
     pub number: u64,
@@ -34,12 +35,6 @@ pub(crate) struct Frame {
     pub ending: Ending,
 }
 
-#[derive(Clone, Copy)]
-pub(crate) enum Reading {
-    Whole(Frame),
-    Malformed,
-}
-
 // The number that stands at a place.
 fn word_at(bytes: &[u8], from: usize) -> u64
     requires { from + 4 ≤ length bytes.now }
@@ -50,34 +45,34 @@ fn word_at(bytes: &[u8], from: usize) -> u64
 }
 
 // The frame at the front of the bytes. It is malformed if it is cut off, or if its tape or its output is too long.
-pub(crate) fn read_frame(bytes: &[u8]) -> Reading
+pub(crate) fn read_frame(bytes: &[u8]) -> Option<Frame>
     ensures reading { result ≡ reading_of bytes.now }
     ensures fits { Fits result (length bytes.now) }
 {
     if bytes.len() < WORD {
-        return Reading::Malformed;
+        return None;
     }
     let tape = word_at(bytes, 0) as usize;
     if tape > LONGEST {
-        return Reading::Malformed;
+        return None;
     }
     let from = tape + WORDS;
     if bytes.len() < from {
-        return Reading::Malformed;
+        return None;
     }
     let output = word_at(bytes, tape + LENGTH) as usize;
     if output > LONGEST {
-        return Reading::Malformed;
+        return None;
     }
     if bytes.len() < from + output {
-        return Reading::Malformed;
+        return None;
     }
     let ending = Ending {
         number: word_at(bytes, tape + NUMBER),
         place: word_at(bytes, tape + PLACE),
         output: output,
     };
-    Reading::Whole(Frame {
+    Some(Frame {
         tape: tape,
         ending: ending,
     })

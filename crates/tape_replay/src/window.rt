@@ -1,93 +1,64 @@
 // Standard input, read ahead: the bytes that are read and not yet played stand in a part of a buffer.
 ghost use Rattle.std.specs.Prelude.{◌≡◌, ◌-◌, ◌≤◌, length};
-ghost use Rattle.tape_replay.specs.Frame.{FrameFits, Fits};
-ghost use Rattle.tape_replay.specs.Window.{Inside};
+ghost use Rattle.tape_replay.specs.Frame.{Fits};
+ghost use Rattle.tape_replay.specs.declared.window.TheConstants.{BUFFER};
 
-use crate::frame::{Frame, Reading, WORDS};
+use crate::frame::{Frame, WORDS};
 use std::io::Read;
+
+// How many bytes are read ahead at most. The longest frame has a fourth of them, and a little more.
+const BUFFER: usize = 0x8_0000;
 
 // How many bytes the longest frame has.
 const LONGEST: usize = 0x2_0010;
 
-// Where that part begins and ends, and whether the input has ended behind it.
-#[derive(Clone, Copy)]
+// The buffer, where that part begins and ends, and whether the input has ended behind it. No heap is allowed here, so
+// the places stand beside the bytes; the last bytes are played after the input has ended, so that the flag does too.
+#[derive(Drop)]
 pub(crate) struct Window {
+    pub buffer: [u8; BUFFER],
     pub from: usize,
     pub to: usize,
     pub ended: bool,
+    ghost ordered: { from ≤ to },
+    ghost inside: { to ≤ BUFFER },
 }
 
-// Before anything is read.
-pub(crate) fn start() -> Window
-    ensures { (result.from ≡ 0) × (result.to ≡ 0) }
-{
-    Window {
-        from: 0,
-        to: 0,
-        ended: false,
+impl Window {
+    // Before anything is read.
+    pub(crate) fn nothing() -> Window {
+        Window {
+            buffer: [0; BUFFER],
+            from: 0,
+            to: 0,
+            ended: false,
+        }
     }
-}
 
-// Moves the part to the front.
-fn move_down(buffer: &mut [u8], from: usize, to: usize)
-    requires { (from ≤ to) × (to ≤ length buffer.old) }
-{
-    let n = to - from;
-    let mut i = 0;
-    while i < n {
-        buffer[i] = buffer[from + i];
-        i += 1;
+    // Reads ahead, unless a whole frame is there or the input has ended.
+    pub(crate) fn refill(&mut self, reader: &mut impl Read) {
+        let kept = self.to - self.from;
+        if self.ended || kept >= LONGEST {
+            return;
+        }
+        self.buffer.copy_within(self.from..self.to, 0);
+        let n = replay::read_full(reader, &mut self.buffer[kept..]);
+        self.from = 0;
+        self.to = kept + n;
+        self.ended = n < BUFFER - kept;
     }
-}
 
-fn behind_frame(w: Window, frame: Frame) -> Window
-    requires inside { w.from ≤ w.to }
-    requires fits { FrameFits frame (w.to - w.from) }
-    ensures { (result.from ≤ result.to) × (result.to ≡ w.to) }
-{
-    Window {
-        from: w.from + (frame.tape + WORDS + frame.ending.output),
-        to: w.to,
-        ended: w.ended,
-    }
-}
-
-// Behind the frame that was read. A malformed one is the last: all that was read counts as played, and no more is
-// read.
-pub(crate) fn behind(w: Window, reading: Reading) -> Window
-    requires inside { w.from ≤ w.to }
-    requires fits { Fits reading (w.to - w.from) }
-    ensures { (result.from ≤ result.to) × (result.to ≡ w.to) }
-{
-    match reading {
-        Reading::Whole(frame) => behind_frame(w, frame),
-        Reading::Malformed => Window {
-            from: w.to,
-            to: w.to,
-            ended: true,
-        },
-    }
-}
-
-// Reads ahead, unless a whole frame is there or the input has ended.
-pub(crate) fn refill(reader: &mut impl Read, buffer: &mut [u8], w: Window) -> Window
-    requires { Inside w (length buffer.old) }
-    ensures { Inside result (length buffer.old) }
-{
-    let from = w.from;
-    let to = w.to;
-    let kept = to - from;
-    if w.ended {
-        return w;
-    }
-    if kept >= LONGEST {
-        return w;
-    }
-    move_down(buffer, from, to);
-    let n = replay::read_full(reader, &mut buffer[kept..]);
-    Window {
-        from: 0,
-        to: kept + n,
-        ended: n < buffer.len() - kept,
+    // Passes over the frame that was read. A malformed one is the last: all that was read counts as played, and no
+    // more is read.
+    pub(crate) fn pass(&mut self, reading: Option<Frame>)
+        requires { Fits reading (self.old.to - self.old.from) }
+    {
+        match reading {
+            Some(frame) => self.from += frame.tape + WORDS + frame.ending.output,
+            None => {
+                self.from = self.to;
+                self.ended = true;
+            }
+        }
     }
 }

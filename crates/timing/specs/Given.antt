@@ -1,24 +1,22 @@
 -- What holds of every state that a set-up, a reset or a run has given, and while a run loops. No sample enters.
 -- Definitions only.
-use Rattle.std.specs.Prelude.{◌≡◌, ℕ, ◌+◌, ◌^◌, ◌<◌, ◌≤◌, Bool, true, T}
+use Rattle.std.specs.Prelude.{◌≡◌, ℕ, ◌+◌, ◌^◌, ◌<◌, ◌≤◌, Bool, true, T, Ok, Err}
 use Rattle.std.specs.Float.{binary64}
 use Rattle.std.specs.Float.Ieee.{neg, le, lt, fits}
 use Rattle.ieee.specs.Notation.{◌⊞◌, ◌⊟◌, zero₀, one₀}
 use Rattle.timing.specs.declared.params.Params.{Params}
 use Rattle.timing.specs.declared.clock.Clock.{Clock}
-use Rattle.timing.specs.declared.setup.Tuning.{Tuning}
-use Rattle.timing.specs.declared.setup.Tuning.TheVariants.{Accepted, Refused}
-use Rattle.timing.specs.Setup.{tuned}
+use Rattle.timing.specs.Setup.{Tuning, tuned}
 use Rattle.timing.specs.Clock.{mid_index}
 
 -- the parameters are those of a set-up that is accepted; its sps is an f64
 pub record Tuned (p : Params) : Type 0 where
   pub sps-fits : T (fits binary64 p.sps)
-  pub accepted : tuned p.sps p.ted p.loop_bw p.damping p.max_deviation p.ted_gain ≡ Accepted p
+  pub accepted : tuned p.sps p.ted p.loop_bw p.damping p.max_deviation p.ted_gain ≡ Ok p
 
 abbrev pub TuningGiven : Tuning → Type 0
-TuningGiven (Accepted p) = Tuned p
-TuningGiven (Refused n) = T true
+TuningGiven (Ok p) = Tuned p
+TuningGiven (Err n) = T true
 
 -- T22: the ranges of fraction, spacing and integrator
 pub record Steady (p : Params) (c : Clock) : Type 0 where

@@ -1,5 +1,7 @@
 pub mod Part
 pub mod Sample
+pub mod Form
+pub mod FormLaws
 pub mod Gains
 pub mod Setup
 pub mod Clock

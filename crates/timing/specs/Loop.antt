@@ -5,17 +5,14 @@ use Rattle.timing.specs.declared.params.Ted.{Ted}
 use Rattle.timing.specs.declared.params.Ted.TheVariants.{Gardner, MuellerMuller}
 use Rattle.timing.specs.declared.params.Params.{Params}
 use Rattle.timing.specs.declared.clock.Clock.{Clock}
+use Rattle.timing.specs.declared.state.Track as declaredTrack
+use Rattle.timing.specs.declared.sample.Window.{Window}
 use Rattle.timing.specs.Sample.{Ops}
 use Rattle.timing.specs.Clock.{mid_index, mid_part, advanced, settled, lacking, mid_left}
 
--- T5: what a run changes while it loops: clock, previous strobe and decision, midpoint sample (middle), two flags
-pub record Track (A : Type 0) : Type 0 where
-  pub clock : Clock
-  pub y_prev : A
-  pub d_prev : A
-  pub mid : A
-  pub mid_ready : Bool
-  pub started : Bool
+-- T5: what a run changes while it loops
+abbrev pub Track : Type 0 → Type 0
+Track A = declaredTrack.Track A
 
 abbrev pub lacks : {A : Type 0} → Params → Track A → Bool
 lacks p t = lacking p.ted t.started t.mid_ready
@@ -26,12 +23,12 @@ abbrev pub there : {A : Type 0} → List A → ℕ → Bool
 there l i = nat_lt (i + 2) (length l)
 
 -- T7: the window at index i
-abbrev pub window_at : {A : Type 0} → Ops A → List A → ℕ → List A
-window_at o l i = slice_index_or l (i - 1) o.zero ∷ slice_index_or l i o.zero ∷ slice_index_or l (i + 1) o.zero ∷ slice_index_or l (i + 2) o.zero ∷ []
+abbrev pub window_at : {A : Type 0} → Ops A → List A → ℕ → Window A
+window_at o l i = record { xm1 = slice_index_or l (i - 1) o.zero; x0 = slice_index_or l i o.zero; x1 = slice_index_or l (i + 1) o.zero; x2 = slice_index_or l (i + 2) o.zero }
 
 -- T8: the interpolated value at (i, mu)
 unfoldable pub value_at : {A : Type 0} → Ops A → List A → ℕ → Float → A
-value_at o l i mu = o.interp (slice_index_or l (i - 1) o.zero) (slice_index_or l i o.zero) (slice_index_or l (i + 1) o.zero) (slice_index_or l (i + 2) o.zero) (narrowed mu)
+value_at o l i mu = let w = window_at o l i in o.interp w.xm1 w.x0 w.x1 w.x2 (narrowed mu)
 
 -- ---- T10: the middle is taken first, where it is lacking and available
 abbrev pub with_mid : {A : Type 0} → Track A → A → Track A

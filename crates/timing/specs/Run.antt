@@ -1,6 +1,6 @@
 -- A whole run over any sample type, a set-up's answer and a fresh state; and a call on real and on complex samples
 -- in slices of f32. Definitions only.
-use Rattle.std.specs.Prelude.{ℕ, ◌+◌, ◌/◌, true, false, cond, T, List, ◌∷◌, length, slice_index_or, Float}
+use Rattle.std.specs.Prelude.{ℕ, ◌+◌, ◌/◌, true, false, cond, T, List, ◌∷◌, length, slice_index_or, Float, Result, Ok, Err}
 use Rattle.values.specs.declared.sample.C32.{C32}
 use Rattle.values.specs.declared.error.Refusal.{Refusal}
 use Rattle.values.specs.declared.error.Refusal.TheVariants.{Odd}
@@ -8,8 +8,9 @@ use Rattle.values.specs.Refusal.{number_of}
 use Rattle.values.specs.Samples.{samples, parts}
 use Rattle.values.specs.Buffers.{odd_either, written}
 use Rattle.timing.specs.declared.params.Params.{Params}
-use Rattle.timing.specs.declared.setup.Tuning.{Tuning}
-use Rattle.timing.specs.declared.setup.Tuning.TheVariants.{Accepted, Refused}
+use Rattle.timing.specs.declared.state.Hist as declaredHist
+use Rattle.timing.specs.declared.state.SymbolSyncState.{SymbolSyncState}
+use Rattle.timing.specs.Setup.{Tuning}
 use Rattle.timing.specs.Sample.{Ops, real, complex}
 use Rattle.timing.specs.Clock.{fresh_clock}
 use Rattle.timing.specs.Loop.{Track, lacks, runs, consumed, track_back}
@@ -17,16 +18,12 @@ use Rattle.timing.specs.Given.{Running}
 
 -- ---- the state
 -- T5: the three samples of the history, oldest first
-pub record Hist (A : Type 0) : Type 0 where
-  pub a : A
-  pub b : A
-  pub c : A
+abbrev pub Hist : Type 0 → Type 0
+Hist A = declaredHist.Hist A
 
 -- T5: the state of a loop
-pub record Sync (A : Type 0) : Type 0 where
-  pub params : Params
-  pub hist : Hist A
-  pub track : Track A
+abbrev pub Sync : Type 0 → Type 0
+Sync A = SymbolSyncState A
 
 -- what holds of a track while a run loops, with n samples of input
 abbrev pub TrackRunning : {A : Type 0} → Params → ℕ → Track A → Type 0
@@ -47,23 +44,22 @@ fresh o p =
     }
 
 -- A6: a set-up's answer, which has a state only if it is accepted
-pub data Opening (A : Type 0) : Type 0 where
-  opened : Sync A → Opening A
-  refused : Refusal → Opening A
+abbrev pub Opening : Type 0 → Type 0
+Opening A = Result (Sync A) Refusal
 
 -- T4: a set-up's answer, by what its checks say
 abbrev pub opened_by : {A : Type 0} → Ops A → Tuning → Opening A
-opened_by o (Accepted p) = opened (fresh o p)
-opened_by o (Refused n) = refused n
+opened_by o (Ok p) = Ok (fresh o p)
+opened_by o (Err n) = Err n
 
 -- K7: its number (0: accepted)
 abbrev pub opening_number : {A : Type 0} → Opening A → ℕ
-opening_number (opened s) = 0
-opening_number (refused n) = number_of n
+opening_number (Ok s) = 0
+opening_number (Err n) = number_of n
 
 abbrev pub OpeningGiven : {A : Type 0} → Opening A → Type 0
-OpeningGiven (opened s) = Given s
-OpeningGiven (refused n) = T true
+OpeningGiven (Ok s) = Given s
+OpeningGiven (Err n) = T true
 
 -- ---- a run over the input xs, with `places` output places
 -- T7: the history, with the input behind it

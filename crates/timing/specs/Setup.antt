@@ -1,5 +1,5 @@
 -- Which set-up is refused, and the parameters of one that is accepted. Definitions only.
-use Rattle.std.specs.Prelude.{ℕ, ◌&&◌, List, [], ◌∷◌, Float}
+use Rattle.std.specs.Prelude.{ℕ, ◌&&◌, List, [], ◌∷◌, Float, Result, Ok, Err}
 use Rattle.std.specs.Float.{binary64}
 use Rattle.std.specs.Float.Ieee.Scale.{finite}
 use Rattle.ieee.specs.Notation.{◌⊠◌, zero₀, decimal}
@@ -9,9 +9,12 @@ use Rattle.checks.specs.Range.{in_range, positive}
 use Rattle.checks.specs.Table.{Row, first_of}
 use Rattle.timing.specs.declared.params.Ted.{Ted}
 use Rattle.timing.specs.declared.params.Params.{Params}
-use Rattle.timing.specs.declared.setup.Tuning.{Tuning}
-use Rattle.timing.specs.declared.setup.Tuning.TheVariants.{Accepted, Refused}
 use Rattle.timing.specs.Gains.{kp_of, ki_of}
+use Rattle.values.specs.declared.error.Refusal.{Refusal}
+
+-- T4: a set-up's answer: the parameters, or why it is refused
+abbrev pub Tuning : Type 0
+Tuning = Result Params Refusal
 
 -- T3: the parameters with given gains, and the integrator's limit
 abbrev pub params_with : Float → Ted → Float → Float → Float → Float → Float → Float → Params
@@ -31,9 +34,9 @@ rows sps bw damping dev gain =
 
 -- T4: the answer of a set-up: the first row that is not passed refuses it
 unfoldable pub tuned : Float → Ted → Float → Float → Float → Float → Tuning
-tuned sps ted bw damping dev gain = first_of Refused (rows sps bw damping dev gain) (Accepted (params_with sps ted bw damping dev gain (kp_of sps bw damping gain) (ki_of sps bw damping gain)))
+tuned sps ted bw damping dev gain = first_of Err (rows sps bw damping dev gain) (Ok (params_with sps ted bw damping dev gain (kp_of sps bw damping gain) (ki_of sps bw damping gain)))
 
 -- K7: its number (0: accepted)
 abbrev pub tuning_number : Tuning → ℕ
-tuning_number (Accepted p) = 0
-tuning_number (Refused n) = number_of n
+tuning_number (Ok p) = 0
+tuning_number (Err n) = number_of n

@@ -33,7 +33,7 @@ pub fn next_strobe(c: Clock) -> f64
 pub fn settle(started: bool, e: f32) -> f64
     ensures { result ≡ settled started e }
 {
-    if started && numbers::is_finite_f32(e) {
+    if started && numbers::is_finite(e) {
         return e as f64;
     }
     0.0

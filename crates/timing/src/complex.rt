@@ -1,8 +1,11 @@
-// The arithmetic of a complex sample.
+// The arithmetic of a complex sample, which is two f32 of a slice, real part first.
 ghost use Rattle.std.specs.Prelude.{◌≡◌, slice_index_or};
 ghost use Rattle.timing.specs.Sample.{complex, blank};
+ghost use Rattle.timing.specs.Form.{twofold};
+ghost use Rattle.timing.specs.FormLaws.{twofold_laws};
 
 use crate::part::interp1;
+use crate::sample::{Sample, Window};
 use values::C32;
 
 // T8, F5: the value mu after w[1], in a window of four samples. Both parts are interpolated.
@@ -14,25 +17,49 @@ pub fn interp(w: [C32; 4], mu: f32) -> C32
     C32 { re: re, im: im }
 }
 
-// T14: the Gardner error re((y_prev - y) conj(m)).
-pub fn gardner(y_prev: C32, y: C32, m: C32) -> f32
-    ensures { result ≡ complex.gardner y_prev y m }
-{
-    (y_prev.re - y.re) * m.re + (y_prev.im - y.im) * m.im
-}
+impl Sample for C32 {
+    ghost ops = { complex };
 
-// T15: the decision sign(y) of each part.
-pub fn decide(y: C32) -> C32
-    ensures { result ≡ complex.decide y }
-{
-    let re = numbers::sign(y.re);
-    let im = numbers::sign(y.im);
-    C32 { re: re, im: im }
-}
+    ghost form = { twofold };
 
-// T15: the Mueller-Müller error re(conj(d_prev) y - conj(d) y_prev).
-pub fn mm(d_prev: C32, y: C32, d: C32, y_prev: C32) -> f32
-    ensures { result ≡ complex.mm d_prev y d y_prev }
-{
-    (d_prev.re * y.re + d_prev.im * y.im) - (d.re * y_prev.re + d.im * y_prev.im)
+    fn zero() -> C32 {
+        C32 { re: 0.0, im: 0.0 }
+    }
+
+    fn interp(w: Window<C32>, mu: f32) -> C32
+        ensures { result ≡ complex.interp w.xm1 w.x0 w.x1 w.x2 mu }
+    {
+        interp([w.xm1, w.x0, w.x1, w.x2], mu)
+    }
+
+    // re((y_prev - y) conj(m))
+    fn gardner(y_prev: C32, y: C32, m: C32) -> f32 {
+        (y_prev.re - y.re) * m.re + (y_prev.im - y.im) * m.im
+    }
+
+    // sign(y) of each part
+    fn decide(y: C32) -> C32 {
+        let re = numbers::sign(y.re);
+        let im = numbers::sign(y.im);
+        C32 { re: re, im: im }
+    }
+
+    // re(conj(d_prev) y - conj(d) y_prev)
+    fn mm(d_prev: C32, y: C32, d: C32, y_prev: C32) -> f32 {
+        (d_prev.re * y.re + d_prev.im * y.im) - (d.re * y_prev.re + d.im * y_prev.im)
+    }
+
+    fn count(n: usize) -> usize {
+        n / 2
+    }
+
+    fn sample_at(input: &[f32], k: usize) -> C32 {
+        values::sample_at(input, k)
+    }
+
+    fn store_sample(output: &mut [f32], k: usize, y: C32) {
+        values::store_sample(output, k, y);
+    }
+
+    ghost laws = { twofold_laws };
 }

@@ -1,5 +1,5 @@
-// What both timing loops share, from kernels/symbol_sync.rs: the set-up's values and gains, the clock,
-// and the arithmetic of one sample. Nothing here requires anything.
+// What the timing loop is made of, from kernels/symbol_sync.rs: the set-up's values and gains, the clock, the state,
+// and what the loop asks of a sample type, with its two instances.
 #![tactic(auto)]
 
 mod clock;
@@ -7,8 +7,12 @@ pub mod complex;
 mod params;
 mod part;
 pub mod real;
+mod sample;
 mod setup;
+mod state;
 
 pub use clock::{Clock, HIST, next_strobe, settle};
-pub use params::{Params, Ted};
-pub use setup::{Tuning, tune};
+pub use params::{Params, Ted, TimingValues};
+pub use sample::{Sample, Window};
+pub use setup::tune;
+pub use state::{Hist, SymbolSyncState, Track};

@@ -9,6 +9,22 @@ pub enum Ted {
     MuellerMuller,
 }
 
+// T2: what a timing loop is set up with.
+#[derive(Clone, Copy)]
+pub struct TimingValues {
+    // Samples per symbol, 2 to 1,000,000.
+    pub sps: f64,
+    pub ted: Ted,
+    // Loop bandwidth, normalized to the symbol rate, 0.0001 to 0.1.
+    pub loop_bw: f64,
+    // 0.1 to 4 (1/√2 is usual).
+    pub damping: f64,
+    // Largest deviation of the spacing from sps, as a fraction of sps, 0 to 0.05.
+    pub max_deviation: f64,
+    // Detector gain, above 0: the detector's slope per symbol of offset.
+    pub ted_gain: f64,
+}
+
 // T2, T3: the six values of a set-up, and the gains and the limit that it works out of them.
 #[derive(Clone, Copy)]
 pub struct Params {

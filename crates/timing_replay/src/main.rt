@@ -22,129 +22,14 @@
 //   f  integrator, middle held + 2 started, next strobe
 #![tactic(auto)]
 
+mod calls;
 mod complex;
 mod counts;
 mod real;
-mod slot;
+mod timed;
 
-ghost use Rattle.replay.specs.Tally.{Tallied};
-ghost use Rattle.timing_replay.specs.Slot.{SlotGiven};
-
-use answers::Operation;
-use replay::{LINES, buffers, tally};
-use slot::Slot;
-use std::io::Read;
-
-// Plays an operation, and counts it.
-fn play(
-    rt: &impl Print,
-    slot: Slot,
-    op: Operation,
-    line: &[u8],
-    values: &mut [u64; 5],
-    input: &mut [f32; 192],
-    output: &mut [f32; 192],
-    tally: &mut [u64; 16],
-) -> Slot
-    requires { SlotGiven slot }
-    ensures given { SlotGiven result }
-    ensures tallied { Tallied 1 tally.old tally.new }
-{
-    let mut agrees = buffers::play(op, values, input, output);
-    let after = slot::play(slot, op, values, input, output, &mut agrees);
-    tally::count_line(rt, tally, counts::place(op.letter), line, agrees);
-    after
-}
-
-// Plays a damaged operation, which must be counted as differing. It has no other effect.
-fn play_damaged(
-    rt: &impl Print,
-    slot: Slot,
-    op: Operation,
-    values: &[u64; 5],
-    input: &[f32; 192],
-    output: &[f32; 192],
-    damaged: &mut [u64; 16],
-)
-    requires { SlotGiven slot }
-{
-    let op = answers::damaged(op, tally::played(damaged));
-    let mut values = *values;
-    let mut input = *input;
-    let mut output = *output;
-    play(
-        rt,
-        slot,
-        op,
-        b"",
-        &mut values,
-        &mut input,
-        &mut output,
-        damaged,
-    );
-}
-
-// Plays a line, first damaged and then as it is.
-fn play_line(
-    rt: &impl Print,
-    slot: Slot,
-    line: &[u8],
-    values: &mut [u64; 5],
-    input: &mut [f32; 192],
-    output: &mut [f32; 192],
-    tally: &mut [u64; 16],
-    damaged: &mut [u64; 16],
-) -> Slot
-    requires { SlotGiven slot }
-    ensures given { SlotGiven result }
-    ensures tallied { Tallied 1 tally.old tally.new }
-{
-    let op = answers::read_operation(line);
-    play_damaged(rt, slot, op, values, input, output, damaged);
-    play(rt, slot, op, line, values, input, output, tally)
-}
-
-// Plays line after line, up to the end of the input, and says how many. What is left there after the last
-// whole line counts as a line too.
-fn play_lines(
-    rt: &impl Print,
-    reader: &mut impl Read,
-    tally: &mut [u64; 16],
-    damaged: &mut [u64; 16],
-) -> u64
-    ensures { Tallied result tally.old tally.new }
-{
-    let mut values = [0u64; 5];
-    let mut input = [0.0f32; 192];
-    let mut output = [0.0f32; 192];
-    let mut slot = Slot::Empty;
-    let mut count = 0;
-    while count < LINES {
-        let mut line = [0u8; 53];
-        let n = replay::read_full(reader, &mut line);
-        if n == 0 {
-            return count;
-        }
-        slot = play_line(
-            rt,
-            slot,
-            &line[..n],
-            &mut values,
-            &mut input,
-            &mut output,
-            tally,
-            damaged,
-        );
-        count += 1;
-    }
-    count
-}
+use calls::Calls;
 
 fn main(rt: HostRuntime) {
-    let mut reader = rt.reader();
-    let mut tally = [0; 16];
-    let mut damaged = tally::of_damaged();
-    let lines = play_lines(&rt, &mut reader, &mut tally, &mut damaged);
-    tally::too_long(&rt, &mut tally, lines);
-    counts::show(&rt, &tally, &damaged);
+    replay::replay(&rt, Calls::new(), &counts::KINDS);
 }

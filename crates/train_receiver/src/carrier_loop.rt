@@ -6,7 +6,8 @@ ghost use Rattle.plain.specs.Codes.{constellation_of};
 ghost use Rattle.plain_carrier.specs.Carrier.{state_of, record_of, set_up_of, outcome_of, Given};
 ghost use Rattle.train_receiver.specs.Readings.{carrier_readings};
 
-use plain_carrier::{Carrier, CarrierSetUp, answer_of, record_of, run, state_of};
+use carrier::CostasState;
+use plain_carrier::{Carrier, CarrierSetUp, run};
 use receiver::CarrierValues;
 
 // L3: a fresh state, or the lowest number of what is wrong with the values, whose ranges
@@ -15,12 +16,7 @@ pub fn trr_carrier_set_up(constellation: u32, v: CarrierValues) -> CarrierSetUp
     ensures outcome { result ≡ set_up_of (opened (constellation_of constellation) v.loop_bw v.damping v.max_offset) }
     ensures given { result.number ≡ 0 → Given result.state }
 {
-    answer_of(carrier::set_up(
-        plain::constellation(constellation),
-        v.loop_bw,
-        v.damping,
-        v.max_offset,
-    ))
+    carrier::set_up(plain::constellation(constellation), v).into()
 }
 
 // L5: the state after construction (C7). The parameters are kept.
@@ -29,7 +25,7 @@ pub fn trr_carrier_reset(x: Carrier) -> Carrier
     ensures state { result ≡ record_of (fresh (constellation_of x.constellation) x.params) }
     ensures given { Given result }
 {
-    record_of(carrier::reset(state_of(x)))
+    carrier::reset(x.into()).into()
 }
 
 // L5: sets the phase (C8), in units of 2^-32 turn.
@@ -38,7 +34,7 @@ pub fn trr_carrier_set_phase(x: Carrier, phase: u32) -> Carrier
     ensures state { result ≡ record_of (phase_set (state_of x) phase) }
     ensures given { Given result }
 {
-    record_of(carrier::set_phase(state_of(x), phase))
+    carrier::set_phase(x.into(), phase).into()
 }
 
 // L5: sets the frequency integrator (C9), in cycles per symbol.
@@ -47,7 +43,7 @@ pub fn trr_carrier_set_frequency(x: Carrier, freq: f64) -> Carrier
     ensures state { result ≡ record_of (frequency_set (state_of x) freq) }
     ensures given { Given result }
 {
-    record_of(carrier::set_frequency(state_of(x), freq))
+    carrier::set_frequency(x.into(), freq).into()
 }
 
 // ---- Readings
@@ -79,7 +75,7 @@ pub fn trr_carrier_readings(x: Carrier) -> CarrierReadings
         damping: x.params.damping,
         max_offset: x.params.max_offset,
     };
-    let s = state_of(x);
+    let s = CostasState::from(x);
     CarrierReadings {
         constellation: x.constellation,
         values: values,
@@ -101,5 +97,5 @@ pub fn trr_carrier_run(x: &mut Carrier, input: &[f32], output: &mut [f32]) -> u3
 {
     let ran = run(*x, input, output);
     *x = ran.state;
-    ran.number
+    carrier::number_of(ran.answer)
 }

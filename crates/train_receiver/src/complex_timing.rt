@@ -7,8 +7,7 @@ ghost use Rattle.plain.specs.Codes.{detector_of};
 ghost use Rattle.plain_timing.specs.Params.{params_of, readings_of};
 ghost use Rattle.plain_timing.specs.Complex.{sync_of, record_of, set_up_of, outcome_of, Given};
 
-use plain::detector;
-use plain_timing::complex::{ComplexSetUp, ComplexTiming, answer_of, record_of, run, state_of};
+use plain_timing::complex::{ComplexSetUp, ComplexTiming, run};
 use plain_timing::{TimingReadings, TimingValues};
 use values::Counts;
 
@@ -18,14 +17,7 @@ pub fn trr_complex_set_up(v: TimingValues) -> ComplexSetUp
     ensures outcome { result ≡ set_up_of (opened_by complexOps (tuned v.sps (detector_of v.ted) v.loop_bw v.damping v.max_deviation v.ted_gain)) }
     ensures given { result.number ≡ 0 → Given result.state }
 {
-    answer_of(complex_sync::set_up(
-        v.sps,
-        detector(v.ted),
-        v.loop_bw,
-        v.damping,
-        v.max_deviation,
-        v.ted_gain,
-    ))
+    complex_sync::set_up(v.into()).into()
 }
 
 // L5: the fresh state of the same parameters (T6).
@@ -34,15 +26,14 @@ pub fn trr_complex_reset(x: ComplexTiming) -> ComplexTiming
     ensures state { result ≡ record_of (fresh complexOps (params_of x.params)) }
     ensures given { Given result }
 {
-    record_of(complex_sync::reset(state_of(x)))
+    complex_sync::reset(x.into()).into()
 }
 
 // L5: the readings of the state (T21).
 pub fn trr_complex_readings(x: ComplexTiming) -> TimingReadings
     ensures { result ≡ readings_of x.params x.track.clock }
 {
-    let p = x.params;
-    plain_timing::readings(p, x.track.clock)
+    plain_timing::readings(x.params, x.track.clock)
 }
 
 // L2: one call over a record that the caller lends, and that the call replaces by the new one.

@@ -3,6 +3,8 @@
 // enums (L1); each call turns the record into the state, and the state into a record again. bindings/
 // declares all of this for C and for Rust.
 //
+// The functions of real and of complex samples are twins, since each has a name in C.
+//
 // Set-up, reset, setters and readings take and give records by value; a sample call replaces a record that
 // the caller lends. Nothing here requires anything but `Given` of a record: that a set-up, a reset, a setter
 // or a call of this library has given it, or that it is converted from such a one (A9).

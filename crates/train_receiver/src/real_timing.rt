@@ -8,8 +8,7 @@ ghost use Rattle.plain.specs.Codes.{detector_of};
 ghost use Rattle.plain_timing.specs.Params.{params_of, readings_of};
 ghost use Rattle.plain_timing.specs.Real.{sync_of, record_of, set_up_of, Given};
 
-use plain::detector;
-use plain_timing::real::{RealSetUp, RealTiming, answer_of, record_of, run, state_of};
+use plain_timing::real::{RealSetUp, RealTiming, run};
 use plain_timing::{TimingReadings, TimingValues};
 use values::Progress;
 
@@ -19,14 +18,7 @@ pub fn trr_real_set_up(v: TimingValues) -> RealSetUp
     ensures outcome { result ≡ set_up_of (opened_by realOps (tuned v.sps (detector_of v.ted) v.loop_bw v.damping v.max_deviation v.ted_gain)) }
     ensures given { result.number ≡ 0 → Given result.state }
 {
-    answer_of(real_sync::set_up(
-        v.sps,
-        detector(v.ted),
-        v.loop_bw,
-        v.damping,
-        v.max_deviation,
-        v.ted_gain,
-    ))
+    real_sync::set_up(v.into()).into()
 }
 
 // L5: the fresh state of the same parameters (T6).
@@ -35,15 +27,14 @@ pub fn trr_real_reset(x: RealTiming) -> RealTiming
     ensures state { result ≡ record_of (fresh realOps (params_of x.params)) }
     ensures given { Given result }
 {
-    record_of(real_sync::reset(state_of(x)))
+    real_sync::reset(x.into()).into()
 }
 
 // L5: the readings of the state (T21).
 pub fn trr_real_readings(x: RealTiming) -> TimingReadings
     ensures { result ≡ readings_of x.params x.track.clock }
 {
-    let p = x.params;
-    plain_timing::readings(p, x.track.clock)
+    plain_timing::readings(x.params, x.track.clock)
 }
 
 // L2: one call over a record that the caller lends, and that the call replaces by the new one.

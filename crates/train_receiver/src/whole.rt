@@ -9,7 +9,7 @@ ghost use Rattle.train_receiver.specs.Readings.{receiver_readings};
 
 use crate::carrier_loop::{CarrierReadings, trr_carrier_readings};
 use crate::complex_timing::trr_complex_readings;
-use plain_receiver::{Receiver, ReceiverSetUp, answer_of, receiver_of, record_of, run, values_of};
+use plain_receiver::{Receiver, ReceiverSetUp, run};
 use plain_timing::{TimingReadings, TimingValues};
 use receiver::CarrierValues;
 use values::{C32, Counts};
@@ -20,7 +20,7 @@ pub fn trr_receiver_set_up(constellation: u32, t: TimingValues, c: CarrierValues
     ensures outcome { result ≡ set_up_of (opened (constellation_of constellation) (values_of t) c) }
     ensures given { result.number ≡ 0 → Given result.receiver }
 {
-    answer_of(receiver::set_up(plain::constellation(constellation), values_of(t), c))
+    receiver::set_up(plain::constellation(constellation), t.into(), c).into()
 }
 
 // L3: a set-up for BPSK, where no constellation is named (R3). The ranges stand at
@@ -29,7 +29,7 @@ pub fn trr_receiver_set_up_unnamed(t: TimingValues, c: CarrierValues) -> Receive
     ensures outcome { result ≡ set_up_of (opened unnamed (values_of t) c) }
     ensures given { result.number ≡ 0 → Given result.receiver }
 {
-    answer_of(receiver::set_up_unnamed(values_of(t), c))
+    receiver::set_up_unnamed(t.into(), c).into()
 }
 
 // L5: both loops as after the set-up, and a count of 0 (R7).
@@ -38,7 +38,7 @@ pub fn trr_receiver_reset(x: Receiver) -> Receiver
     ensures state { result ≡ record_of (restarted (receiver_of x)) }
     ensures given { Given result }
 {
-    record_of(receiver::reset(receiver_of(x)))
+    receiver::reset(x.into()).into()
 }
 
 // L5: sets the carrier's phase (R8), in units of 2^-32 turn.
@@ -47,7 +47,7 @@ pub fn trr_receiver_set_phase(x: Receiver, phase: u32) -> Receiver
     ensures state { result ≡ record_of (phase_set (receiver_of x) phase) }
     ensures given { Given result }
 {
-    record_of(receiver::set_phase(receiver_of(x), phase))
+    receiver::set_phase(x.into(), phase).into()
 }
 
 // ---- Readings
@@ -66,11 +66,9 @@ pub struct ReceiverReadings {
 pub fn trr_receiver_readings(x: Receiver) -> ReceiverReadings
     ensures { result ≡ receiver_readings x }
 {
-    let t = x.timing;
-    let c = x.carrier;
     ReceiverReadings {
-        timing: trr_complex_readings(t),
-        carrier: trr_carrier_readings(c),
+        timing: trr_complex_readings(x.timing),
+        carrier: trr_carrier_readings(x.carrier),
         count: x.count,
     }
 }

@@ -1,6 +1,5 @@
 -- An answer as its number and counts. Definitions only.
-use Rattle.values.specs.declared.progress.Answer.{Answer}
-use Rattle.values.specs.Answer.{number, consumed, produced}
+use Rattle.values.specs.Answer.{Answer, number, consumed, produced}
 use Rattle.values.specs.declared.counts.Counts.{Counts}
 
 abbrev pub counts_of : Answer → Counts

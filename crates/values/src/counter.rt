@@ -1,25 +1,11 @@
-// A count of 64 bits that stops at its top, and the smaller of two counts.
-ghost use Rattle.std.specs.Prelude.{◌≡◌, min};
+// A count of 64 bits that stops at its top.
+ghost use Rattle.std.specs.Prelude.{◌≡◌};
 ghost use Rattle.values.specs.Counter.{count_after};
 
-// The largest count.
-const TOP: u64 = 0xffff_ffff_ffff_ffff;
-
 // R18: the count after so many more.
+#[tactic(auto, unfolding(crate::specs::Counter::count_after))]
 pub fn counted(count: u64, more: usize) -> u64
     ensures { result ≡ count_after count more }
 {
-    let room = TOP - count;
-    if room < more as u64 {
-        TOP
-    } else {
-        count + (more as u64)
-    }
-}
-
-// The smaller of two counts.
-pub fn least(a: usize, b: usize) -> usize
-    ensures { result ≡ min a b }
-{
-    if a < b { a } else { b }
+    count.saturating_add(more as u64)
 }

@@ -2,9 +2,11 @@
 ghost use Rattle.std.specs.Prelude.{◌≡◌};
 ghost use Rattle.values.specs.Counts.{counts_of};
 
-use crate::progress::Answer;
+use crate::error::Refusal;
+use crate::progress::Progress;
 
-// A2: what a call answers: its number, 0 where it is done, and the two counts.
+// A2: what a call answers: its number, 0 where it is done, and the two counts. The number stands beside them as the C
+// interface has them.
 #[repr(C)]
 #[derive(Clone, Copy)]
 pub struct Counts {
@@ -13,20 +15,22 @@ pub struct Counts {
     pub produced: usize,
 }
 
-// K7: an answer as its number and counts.
-pub fn counts_of(answer: Answer) -> Counts
-    ensures { result ≡ counts_of answer }
-{
-    match answer {
-        Answer::Done(p) => Counts {
-            number: 0,
-            consumed: p.consumed,
-            produced: p.produced,
-        },
-        Answer::Refused(n) => Counts {
-            number: n.number(),
-            consumed: 0,
-            produced: 0,
-        },
+impl From<Result<Progress, Refusal>> for Counts {
+    ghost from_gives = { λ answer counts. counts ≡ counts_of answer };
+
+    // K7: an answer as its number and counts.
+    fn from(answer: Result<Progress, Refusal>) -> Counts {
+        match answer {
+            Ok(p) => Counts {
+                number: 0,
+                consumed: p.consumed,
+                produced: p.produced,
+            },
+            Err(n) => Counts {
+                number: n.number(),
+                consumed: 0,
+                produced: 0,
+            },
+        }
     }
 }

@@ -30,11 +30,19 @@ pub enum Refusal {
 }
 
 impl Refusal {
-    // A2: the number of the refusal.
+    // A2: the number of the refusal, by its name in the specification.
     pub fn number(self) -> u32
         ensures { result ≡ number_of self }
     {
-        match self {
+        u32::from(self)
+    }
+}
+
+impl From<Refusal> for u32 {
+    ghost from_gives = { λ refusal number. number ≡ number_of refusal };
+
+    fn from(refusal: Refusal) -> u32 {
+        match refusal {
             Refusal::Pace => 1,
             Refusal::Width => 2,
             Refusal::Damping => 3,

@@ -8,8 +8,8 @@ mod error;
 mod progress;
 mod sample;
 
-pub use counter::{counted, least};
-pub use counts::{Counts, counts_of};
+pub use counter::counted;
+pub use counts::Counts;
 pub use error::Refusal;
-pub use progress::{Answer, Progress};
+pub use progress::Progress;
 pub use sample::{C32, sample_at, store_sample};

@@ -1,5 +1,4 @@
-// The counts of a call, from timing.rs, and its answer.
-use crate::error::Refusal;
+// The counts of a call, from timing.rs. A call answers them, or why it is refused (A2).
 
 // Result of a rate-changing call.
 #[repr(C)]
@@ -9,11 +8,4 @@ pub struct Progress {
     pub consumed: usize,
     // Output samples produced.
     pub produced: usize,
-}
-
-// A2: the answer of a run: its counts, or why it was refused.
-#[derive(Clone, Copy)]
-pub enum Answer {
-    Done(Progress),
-    Refused(Refusal),
 }

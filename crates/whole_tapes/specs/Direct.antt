@@ -1,20 +1,16 @@
 -- O11: a tape as a list of commands, which is found from its bytes alone, and the same commands made directly as the
 -- receiver's own calls: `opened`, `replaced_timing`, `replaced_carrier`, `called`, `restarted`. Definitions only.
-use Rattle.std.specs.Prelude.{cond, List, [], ◌∷◌, ◌++◌, ℕ, zero, suc, eqb, length, drop, Float}
+use Rattle.std.specs.Prelude.{cond, List, [], ◌∷◌, ◌++◌, ℕ, zero, suc, eqb, length, drop, Float, Ok, Err}
 use Rattle.values.specs.declared.error.Refusal.{Refusal}
 use Rattle.values.specs.declared.error.Refusal.TheVariants.{Undefined, Cut, Early}
 use Rattle.values.specs.Refusal.{number_of}
 use Rattle.little_endian.specs.Samples.{bytes}
-use Rattle.complex_sync.specs.declared.state.SetUp as timingAnswer
-use Rattle.complex_sync.specs.declared.state.SetUp.TheVariants as timingSetUp
+use Rattle.complex_sync.specs.Views.{SetUp as TimingSetUp}
 use Rattle.constellations.specs.declared.kinds.CostasConstellation.{CostasConstellation}
-use Rattle.carrier.specs.declared.state.SetUp as carrierAnswer
-use Rattle.carrier.specs.declared.state.SetUp.TheVariants as carrierSetUp
-use Rattle.receiver.specs.declared.record.TimingValues.{TimingValues}
-use Rattle.receiver.specs.declared.record.CarrierValues.{CarrierValues}
-use Rattle.receiver.specs.declared.record.SetUp as receiverAnswer
-use Rattle.receiver.specs.declared.record.SetUp.TheVariants.{Ready, Refused}
-use Rattle.receiver.specs.Record.{Receiver, opened, restarted}
+use Rattle.carrier.specs.State.{SetUp as CarrierSetUp}
+use Rattle.timing.specs.declared.params.TimingValues.{TimingValues}
+use Rattle.carrier.specs.declared.params.CarrierValues.{CarrierValues}
+use Rattle.receiver.specs.Record.{SetUp as ReceiverSetUp, Receiver, opened, restarted}
 use Rattle.receiver.specs.Loops.{timing_opened, carrier_opened, replaced_timing, replaced_carrier}
 use Rattle.sample_calls.specs.Call.{called}
 use Rattle.tape.specs.Reading.{Reading, unfinished, undefined, carrier, timing, announced, samples, reset, reading_of}
@@ -84,17 +80,17 @@ abbrev pub put_out : List ℕ → Told → Told
 put_out bs t = record { output = bs ++ t.output; number = t.number }
 
 -- by a set-up's answer
-abbrev pub by_timing : timingAnswer.SetUp → Told → Told
-by_timing (timingSetUp.Ready s) t = t
-by_timing (timingSetUp.Refused n) t = stops n
+abbrev pub by_timing : TimingSetUp → Told → Told
+by_timing (Ok s) t = t
+by_timing (Err n) t = stops n
 
-abbrev pub by_carrier : carrierAnswer.SetUp → Told → Told
-by_carrier (carrierSetUp.Ready c) t = t
-by_carrier (carrierSetUp.Refused n) t = stops n
+abbrev pub by_carrier : CarrierSetUp → Told → Told
+by_carrier (Ok c) t = t
+by_carrier (Err n) t = stops n
 
-abbrev pub by_receiver : (Direct → Told) → receiverAnswer.SetUp → Told
-by_receiver rest (Ready r) = rest (both r)
-by_receiver rest (Refused n) = stops n
+abbrev pub by_receiver : (Direct → Told) → ReceiverSetUp → Told
+by_receiver rest (Ok r) = rest (both r)
+by_receiver rest (Err n) = stops n
 
 -- one command; `rest` is what the others come to
 abbrev pub timing_set : (Direct → Told) → TimingValues → Direct → Told

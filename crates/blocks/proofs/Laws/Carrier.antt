@@ -11,7 +11,8 @@ use Rattle.values.specs.declared.sample.C32.{C32}
 use Rattle.values.specs.Samples.{samples, parts}
 use Rattle.values.proofs.Laws.Samples.{samples-append}
 use Rattle.values.proofs.Laws.Buffers.{both-even, even-both}
-use Rattle.timing.proofs.Laws.Shown.{twofold, slice-append}
+use Rattle.timing.specs.FormLaws.{twofold_laws}
+use Rattle.timing.proofs.Laws.Shown.{slice-append}
 use Rattle.cosine.specs.Table.{cos_list}
 use Rattle.constellations.specs.declared.kinds.CostasConstellation.{CostasConstellation}
 use Rattle.carrier.specs.declared.params.Params.{Params}
@@ -35,7 +36,7 @@ done-together s xs ys even =
     let run = runs cos_list s.constellation s.params in
     let first = run s.track (samples xs) in
     let e = runs-together cos_list s.constellation s.params s.track (samples xs) (samples ys) ∙ ap (run s.track) (sym (samples-append xs ys even)) in
-    let output = sym (slice-append twofold first.values (run first.last (samples ys)).values) in
+    let output = sym (slice-append twofold_laws first.values (run first.last (samples ys)).values) in
     (λ j. record { number = 0; state = record { constellation = s.constellation; params = s.params; track = (run first.last (samples ys)).last }; output = output j })
     ∙ ap (λ (r : Symbols). record { number = 0; state = record { constellation = s.constellation; params = s.params; track = r.last }; output = parts r.values }) e
 

@@ -17,7 +17,6 @@ use Rattle.values.proofs.Laws.Counter.{count_none, count-twice}
 use Rattle.timing.specs.Sample.{complex}
 use Rattle.timing.specs.Run.{Ran, ran}
 use Rattle.timing.proofs.Laws.Turned.{written_back}
-use Rattle.complex_sync.specs.Views.{sync, state_of}
 use Rattle.cosine.specs.Table.{cos_list}
 use Rattle.carrier.specs.Step.{Symbols, runs}
 use Rattle.carrier.proofs.Laws.Count.{runs-count}
@@ -35,7 +34,7 @@ use Rattle.blocks.proofs.Laws.Carrier.{runs-together}
 
 -- ---- one run over the samples l, with n places
 abbrev timed : Receiver → List C32 → ℕ → Ran C32
-timed r l n = ran complex (sync r.timing) l n
+timed r l n = ran complex r.timing l n
 
 abbrev carried : Receiver → List C32 → Symbols
 carried r vs = runs cos_list r.carrier.constellation r.carrier.params r.carrier.track vs
@@ -48,14 +47,14 @@ assembled r t c is = record {
   instants = is;
   consumed = t.taken;
   produced = length t.values;
-  receiver = record { timing = state_of t.state; carrier = record { constellation = r.carrier.constellation; params = r.carrier.params; track = c.last }; count = count_after r.count (length t.values) };
+  receiver = record { timing = t.state; carrier = record { constellation = r.carrier.constellation; params = r.carrier.params; track = c.last }; count = count_after r.count (length t.values) };
 }
 
 abbrev pub received : Receiver → List C32 → ℕ → Heard
-received r l n = assembled r (timed r l n) (carried r (timed r l n).values) (instants complex (sync r.timing) l n)
+received r l n = assembled r (timed r l n) (carried r (timed r l n).values) (instants complex r.timing l n)
 
 pub received-instants : (r : Receiver) (l : List C32) (n : ℕ) → length (received r l n).instants ≡ (received r l n).produced
-received-instants r l n = instants-count complex (sync r.timing) l n
+received-instants r l n = instants-count complex r.timing l n
 
 -- ---- two in a row are one, where there are m places in all
 joined-consumed : (q h : Heard) → (joined q h).consumed ≡ q.consumed + h.consumed
@@ -66,7 +65,7 @@ joined-instants q h = refl
 
 pub received-joined : (r : Receiver) → Given r → (xs ys : List C32) (n m : ℕ) → n ≤ m → let q = received r xs n in joined q (received q.receiver (drop q.consumed xs ++ ys) (m - q.produced)) ≡ received r (xs ++ ys) m
 received-joined r given xs ys n m fewer =
-    let s = sync r.timing in
+    let s = r.timing in
     let q = timed r xs n in
     let p = goes_on complex q xs ys m in
     let u = carried r q.values in
@@ -86,7 +85,7 @@ received-joined r given xs ys n m fewer =
       instants = one-after-another j;
       consumed = both-taken j;
       produced = count j;
-      receiver = record { timing = state_of p.state; carrier = record { constellation = r.carrier.constellation; params = r.carrier.params; track = v.last }; count = symbols j };
+      receiver = record { timing = p.state; carrier = record { constellation = r.carrier.constellation; params = r.carrier.params; track = v.last }; count = symbols j };
     })
     ∙ ap (λ (c : Symbols). assembled r (together q p) c (instants complex s (xs ++ ys) m)) carriers
     ∙ ap (λ (t : Ran C32). assembled r t (carried r t.values) (instants complex s (xs ++ ys) m)) timings
@@ -113,11 +112,11 @@ module _ (w : Waiting) (c : Call) where
       let e = runs-count cos_list r.carrier.constellation r.carrier.params r.carrier.track t.values in
       ap (λ (k : ℕ). take k (samples (written (parts u) c.output))) (sym e) ∙ written_back u c.output
 
-  done-received : let o = done r (handed w c) c.strobes c.output in let is = instants complex (sync r.timing) (samples (handed w c)) (length c.strobes / 2) in
+  done-received : let o = done r (handed w c) c.strobes c.output in let is = instants complex r.timing (samples (handed w c)) (length c.strobes / 2) in
       record { strobes = strobes_of o; outputs = outputs_of o; instants = is; consumed = o.consumed; produced = o.produced; receiver = o.receiver } ≡ received r (samples (handed w c)) (length c.strobes / 2)
   unfolding done
   done-received =
-      let is = instants complex (sync r.timing) (samples (handed w c)) (length c.strobes / 2) in
+      let is = instants complex r.timing (samples (handed w c)) (length c.strobes / 2) in
       let front = written_back t.values c.strobes in
       ap (λ (vs : List C32). let u = carried r vs in record { strobes = take n (samples (written (parts t.values) c.strobes)); outputs = take n (samples (written (parts u.values) c.output)); instants = is; consumed = t.taken; produced = n; receiver = (assembled r t u is).receiver }) handed-on
       ∙ (λ j. record { strobes = front j; outputs = outputs-back j; instants = is; consumed = t.taken; produced = n; receiver = (received r (samples (handed w c)) (length c.strobes / 2)).receiver })
@@ -125,7 +124,7 @@ module _ (w : Waiting) (c : Call) where
   pub call-received : accepts (handed w c) c.strobes c.output ≡ true → heard_on w c ≡ received r (samples (handed w c)) (length c.strobes / 2)
   call-received h =
       let e = accepted-done r (handed w c) c.strobes c.output h in
-      let is = instants complex (sync r.timing) (samples (handed w c)) (length c.strobes / 2) in
+      let is = instants complex r.timing (samples (handed w c)) (length c.strobes / 2) in
       (λ j. record { strobes = strobes_of (e j); outputs = outputs_of (e j); instants = cond (h j) is []; consumed = (e j).consumed; produced = (e j).produced; receiver = (e j).receiver }) ∙ done-received
 
 -- ---- a refused call leaves nothing heard
@@ -136,7 +135,7 @@ module _ (w : Waiting) (c : Call) (h : accepts (handed w c) c.strobes c.output �
   pub refused-unheard : heard_on w c ≡ unheard w.receiver
   refused-unheard =
       let e = refusal.1 in
-      let is = instants complex (sync w.receiver.timing) (samples (handed w c)) (length c.strobes / 2) in
+      let is = instants complex w.receiver.timing (samples (handed w c)) (length c.strobes / 2) in
       λ j. record { strobes = strobes_of (e j); outputs = outputs_of (e j); instants = cond (h j) is []; consumed = (e j).consumed; produced = (e j).produced; receiver = (e j).receiver }
 
   -- and leaves all that it was handed
@@ -155,5 +154,5 @@ unheard-first r h = λ j. record { strobes = h.strobes; outputs = h.outputs; ins
 pub received-nothing : (r : Receiver) → Given r → (m : ℕ) → received r [] m ≡ unheard r
 unfolding runs
 received-nothing r given m =
-    ap₂ (λ (t : Ran C32) (is : List Instant). assembled r t (carried r t.values) is) (ran-nothing complex (sync r.timing) given.timing m) (instants-nothing complex (sync r.timing) given.timing m)
+    ap₂ (λ (t : Ran C32) (is : List Instant). assembled r t (carried r t.values) is) (ran-nothing complex r.timing given.timing m) (instants-nothing complex r.timing given.timing m)
     ∙ (λ j. record { strobes = []; outputs = []; instants = []; consumed = 0; produced = 0; receiver = record { timing = r.timing; carrier = r.carrier; count = count_none r.count given.count-in j } })

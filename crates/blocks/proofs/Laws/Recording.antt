@@ -12,7 +12,6 @@ use Rattle.values.specs.Samples.{samples}
 use Rattle.values.proofs.Laws.Samples.{samples-append, samples-rest}
 use Rattle.timing.specs.Sample.{complex}
 use Rattle.timing.proofs.Laws.Run.{ran-produced}
-use Rattle.complex_sync.specs.Views.{sync}
 use Rattle.receiver.specs.Record.{Receiver, Given}
 use Rattle.sample_calls.specs.Call.{accepts}
 use Rattle.sample_calls.specs.Calls.{Call}
@@ -46,7 +45,7 @@ module _ (w : Waiting) (c : Call) (cs : List Call) (m : ℕ) (given : Given w.re
       let q = heard_on w c in
       let e = call-received w c h in
       let even = (accepted-whole xs c.strobes c.output h).0 in
-      let few : q.produced ≤ n = subst (λ (p : Heard). p.produced ≤ n) (sym e) (ran-produced complex (sync w.receiver.timing) (samples xs) n) in
+      let few : q.produced ≤ n = subst (λ (p : Heard). p.produced ≤ n) (sym e) (ran-produced complex w.receiver.timing (samples xs) n) in
       ap (joined q) (others (waits_after w c) (m - q.produced) (called-given w.receiver xs c.strobes c.output given) (omega arith) none)
       ∙ ap (λ (l : List C32). joined q (received q.receiver l (m - q.produced))) (samples-rest q.consumed xs (recorded cs) even)
       ∙ ap (λ (p : Heard). joined p (received p.receiver (drop p.consumed (samples xs) ++ samples (recorded cs)) (m - p.produced))) e

@@ -19,7 +19,6 @@ use Rattle.values.proofs.Laws.Samples.{length-samples}
 use Rattle.timing.specs.Sample.{complex}
 use Rattle.timing.specs.Run.{Ran, ran}
 use Rattle.timing.proofs.Laws.Run.{ran-all}
-use Rattle.complex_sync.specs.Views.{sync}
 use Rattle.receiver.specs.Record.{Receiver, Given}
 use Rattle.sample_calls.specs.Call.{accepts, odd_any}
 use Rattle.sample_calls.specs.Calls.{Call}
@@ -39,7 +38,7 @@ takes-left (c ∷ cs) w none all = takes-left cs (waits_after w c) (drop_of_leng
 -- with more places than samples it does
 roomy-consumes : (r : Receiver) (c : Call) → Given r → accepts c.input c.strobes c.output ≡ true → length c.input / 2 < length c.strobes / 2 → 2 * (call_on (start r) c).consumed ≡ length c.input
 roomy-consumes r c given fits room =
-    let s = sync r.timing in
+    let s = r.timing in
     let xs = samples c.input in
     let n = length c.strobes / 2 in
     let taken = ap (λ (h : Heard). h.consumed) (call-received (start r) c fits) ∙ ran-roomy complex s xs n given.timing (omega (arith, length-samples c.input)) in
@@ -105,7 +104,7 @@ module _ (zs ys : List Float) (lent : APlace zs ys) where
     n = length zs / 2
 
     abbrev t : Ran C32
-    t = ran complex (sync w.receiver.timing) (samples xs) n
+    t = ran complex w.receiver.timing (samples xs) n
 
     same_length : length xs ≡ length w.rest
     same_length = ap length (append-nil w.rest)
@@ -131,11 +130,11 @@ module _ (zs ys : List Float) (lent : APlace zs ys) where
       where
         go : (length t.values < n) ⊎ (n ≤ length t.values) → ((waits_after w once).rest ≡ []) ⊎ (ahead (waits_after w once) < ahead w)
         go (inl few) =
-            let all = ran-all complex (sync w.receiver.timing) (samples xs) n few in
+            let all = ran-all complex w.receiver.timing (samples xs) n few in
             inl (drop_of_length-le xs {i = 2 * (call_on w once).consumed} (omega (arith, taken, all, length-samples xs, xs-even)))
         go (inr full) =
             let i = ap (λ (h : Heard). h.receiver.timing.track.clock.i) call-is in
-            let h = ran-nearer complex (sync w.receiver.timing) (samples xs) n given.timing in
+            let h = ran-nearer complex w.receiver.timing (samples xs) n given.timing in
             inr (omega (arith, i, h, full, lent.place, length-samples xs, left-length, same_length))
 
   -- on nothing a call changes nothing

@@ -17,32 +17,34 @@ use Rattle.values.proofs.Laws.Samples.{samples-append, samples-rest}
 use Rattle.values.specs.Buffers.{written, odd_either}
 use Rattle.values.proofs.Laws.Buffers.{odd-input, both-even, even-both}
 use Rattle.timing.specs.Sample.{real, complex}
+use Rattle.timing.specs.Form.{Form}
+use Rattle.timing.specs.FormLaws.{FormLaws, onefold_laws, twofold_laws}
 use Rattle.timing.specs.Run.{Sync, Given, Ran, ran, Outcome, done, called_real, done_complex, called_complex}
 use Rattle.timing.proofs.Laws.Run.{called_complex-refused, called_complex-done}
-use Rattle.timing.proofs.Laws.Shown.{Form, onefold, twofold, length-slice, slice-append}
+use Rattle.timing.proofs.Laws.Shown.{length-slice, slice-append}
 use Rattle.blocks.specs.Timing.{goes_on, together, call_together, goes_on_real, goes_on_complex}
 use Rattle.blocks.proofs.Laws.Timing.{ran-together}
 
 -- ---- what two runs store in the places of a slice
-module _ {A : Type 0} (m : Form A) where
+module _ {A : Type 0} {m : Form A} (keeps : FormLaws m) where
   -- the values of q stand in the first places, and what is behind them is as found
   module _ (q : Ran A) (zs : List Float) where
     abbrev n : ℕ
     n = m.width * length q.values
 
     stored-front : take n (done m.slice q zs).output ≡ m.slice q.values
-    stored-front = take_at (m.slice q.values) (drop (length (m.slice q.values)) zs) n (length-slice m q.values)
+    stored-front = take_at (m.slice q.values) (drop (length (m.slice q.values)) zs) n (length-slice keeps q.values)
 
     pub stored-rest : drop n (done m.slice q zs).output ≡ drop n zs
-    stored-rest = drop_at (m.slice q.values) (drop (length (m.slice q.values)) zs) n (length-slice m q.values) ∙ ap (λ (x : ℕ). drop x zs) (length-slice m q.values)
+    stored-rest = drop_at (m.slice q.values) (drop (length (m.slice q.values)) zs) n (length-slice keeps q.values) ∙ ap (λ (x : ℕ). drop x zs) (length-slice keeps q.values)
 
     pub done-together : (r : Ran A) → call_together m.width (done m.slice q zs) (done m.slice r (drop n zs)) ≡ done m.slice (together q r) zs
     done-together r =
         let vs = m.slice q.values in
         let ws = m.slice r.values in
         let produced = sym (length-append q.values r.values) in
-        let all = slice-append m q.values r.values in
-        let long : n + length ws ≡ length (m.slice (q.values ++ r.values)) = omega (arith, ap length all, length-append vs ws, length-slice m q.values) in
+        let all = slice-append keeps q.values r.values in
+        let long : n + length ws ≡ length (m.slice (q.values ++ r.values)) = omega (arith, ap length all, length-append vs ws, length-slice keeps q.values) in
         let behind = drop-drop (length ws) n zs ∙ ap (λ (x : ℕ). drop x zs) long in
         let output : take n (done m.slice q zs).output ++ written ws (drop n zs) ≡ written (m.slice (q.values ++ r.values)) zs
         = ap₂ (λ (a b : List Float). a ++ (ws ++ b)) stored-front behind ∙ sym (append_assoc vs ws (drop (length (m.slice (q.values ++ r.values))) zs)) ∙ ap (λ (l : List Float). l ++ drop (length (m.slice (q.values ++ r.values))) zs) (sym all) in
@@ -63,7 +65,7 @@ module _ (s : Sync Float) (given : Given s) (xs ys zs : List Float) where
       let left : length (drop (1 * n) zs) ≡ length zs - n = omega (arith, length-drop (1 * n) zs) in
       ap (λ (l : List Float). call_together 1 (done (λ vs. vs) first zs) (done (λ vs. vs) (ran real first.state (drop first.taken xs ++ ys) (length l)) l)) real-rest
       ∙ ap (λ (k : ℕ). call_together 1 (done (λ vs. vs) first zs) (done (λ vs. vs) (ran real first.state (drop first.taken xs ++ ys) k) (drop (1 * n) zs))) left
-      ∙ done-together onefold first zs (goes_on real first xs ys (length zs))
+      ∙ done-together onefold_laws first zs (goes_on real first xs ys (length zs))
       ∙ ap (λ (r : Ran Float). done (λ vs. vs) r zs) (ran-together real s xs ys (length zs) (length zs) (omega arith) given)
 
 -- ---- complex samples
@@ -79,10 +81,10 @@ module _ (s : Sync C32) (given : Given s) (xs ys zs : List Float) where
       let rest = drop (2 * first_of.taken) xs ++ ys in
       let whole = both-even rest (drop (2 * n) zs) (λ o. omega (arith, length-append (drop (2 * first_of.taken) xs) ys, length-drop (2 * first_of.taken) xs)) (λ o. omega (arith, length-drop (2 * n) zs)) in
       let left : length (drop (2 * n) zs) / 2 ≡ length zs / 2 - n = omega (arith, length-drop (2 * n) zs) in
-      ap (λ (l : List Float). call_together 2 q (called_complex first_of.state rest l)) (stored-rest twofold first_of zs)
+      ap (λ (l : List Float). call_together 2 q (called_complex first_of.state rest l)) (stored-rest twofold_laws first_of zs)
       ∙ ap (call_together 2 q) (called_complex-done first_of.state rest (drop (2 * n) zs) whole)
       ∙ ap₂ (λ (l : List C32) (k : ℕ). call_together 2 q (done parts (ran complex first_of.state l k) (drop (2 * n) zs))) (samples-rest first_of.taken xs ys xs-even) left
-      ∙ done-together twofold first_of zs (goes_on complex first_of (samples xs) (samples ys) (length zs / 2))
+      ∙ done-together twofold_laws first_of zs (goes_on complex first_of (samples xs) (samples ys) (length zs / 2))
       ∙ ap (λ (r : Ran C32). done parts r zs) (ran-together complex s (samples xs) (samples ys) (length zs / 2) (length zs / 2) (omega arith) given)
       ∙ ap (λ (l : List C32). done parts (ran complex s l (length zs / 2)) zs) (sym (samples-append xs ys xs-even))
 

@@ -1,7 +1,7 @@
 -- The loop over the symbols: what the definition makes of the rest of the input, stored behind what is done, is what
 -- it makes of the whole. Assumes nothing.
 use mathlib.Core.Path.{◌≡◌, refl, sym, ap, ◌∙◌, subst}
-use Prim.Native.Nat.{ℕ, suc, ◌+◌, ◌*◌, ◌/◌, ◌^◌, ◌≤◌, ◌<◌, min}
+use Prim.Native.Nat.{ℕ, suc, ◌+◌, ◌*◌, ◌/◌, ◌≤◌, ◌<◌, min}
 use native.Mathlib.Nat.{zero-add}
 use native.Mathlib.Numerals.{add-one}
 use native.Mathlib.Omega.{arith}
@@ -60,8 +60,6 @@ pub record Underway (table : List Float) (c : CostasConstellation) (p : Params) 
   pub count : length l ≡ n
   pub room : length ys ≡ length ys₀
   pub room₀ : n ≤ length ys₀ / 2
-  pub done : k ≤ n
-  pub small : n < 2 ^ 61
   pub last : (runs table c p t (drop k l)).last ≡ (runs table c p t₀ l).last
   pub shows : shown ys k (runs table c p t (drop k l)) ≡ shown ys₀ 0 (runs table c p t₀ l)
 
@@ -75,8 +73,8 @@ reached-read xs ys k h e =
     e ∙ sym (get_or-take m (samples xs) k silence (omega (arith, reached-count xs ys))) ∙ ap (λ (l : List C32). get_or l k silence) (sym (samples-take m xs))
 
 module _ {table : List Float} {c : CostasConstellation} {p : Params} {n : ℕ} {t₀ : Track} {ys₀ : List Float} where
-  pub begins : (xs : List Float) → n ≡ min (length xs / 2) (length ys₀ / 2) → n < 2 ^ 61 → Underway table c p (reached xs ys₀) n t₀ ys₀ t₀ ys₀ 0
-  begins xs e small = record { count = reached-count xs ys₀ ∙ sym e; room = refl; room₀ = omega arith; done = omega arith; small = small; last = refl; shows = refl }
+  pub begins : (xs : List Float) → n ≡ min (length xs / 2) (length ys₀ / 2) → Underway table c p (reached xs ys₀) n t₀ ys₀ t₀ ys₀ 0
+  begins xs e = record { count = reached-count xs ys₀ ∙ sym e; room = refl; room₀ = omega arith; last = refl; shows = refl }
 
   module _ {l : List C32} {t : Track} {ys : List Float} {k : ℕ} (u : Underway table c p l n t₀ ys₀ t ys k) where
     -- the output y of the sample x is stored, and v is the track after it
@@ -86,8 +84,6 @@ module _ {table : List Float} {c : CostasConstellation} {p : Params} {n : ℕ} {
           count = u.count;
           room = ap length h ∙ stored-length ys k y ∙ u.room;
           room₀ = u.room₀;
-          done = omega arith;
-          small = u.small;
           last = ap (λ (r : Symbols). r.last) (sym step) ∙ u.last;
           shows = ap (λ (m : List Float). shown m (k + 1) rest) h ∙ sym (shown-more ys k y rest (let a = u.room in let b = u.room₀ in omega arith)) ∙ ap (shown ys k) (sym step) ∙ u.shows;
         }

@@ -12,7 +12,6 @@ use Rattle.values.specs.declared.error.Refusal.TheVariants.{Uneven, Odd}
 use Rattle.values.specs.Samples.{samples}
 use Rattle.values.proofs.Laws.Samples.{length-samples}
 use Rattle.timing.specs.Sample.{complex}
-use Rattle.complex_sync.specs.Views.{sync}
 use Rattle.receiver.specs.Record.{Receiver, Given}
 use Rattle.sample_calls.specs.Call.{Outcome, refused_call, done, odd_any, called}
 use Rattle.sample_calls.proofs.Laws.Refused.{all-even, called-done}
@@ -23,7 +22,7 @@ use Rattle.density.proofs.Laws.Runs.{ran-sparse}
 module _ (r : Receiver) (g : Given r) (xs zs ys : List Float) where
   done-sparse : Sparse (length xs / 2) (done r xs zs ys).produced
   unfolding done
-  done-sparse = let h = ran-sparse complex (sync r.timing) (samples xs) (length zs / 2) g.timing in let n = length-samples xs in omega arith
+  done-sparse = let h = ran-sparse complex r.timing (samples xs) (length zs / 2) g.timing in let n = length-samples xs in omega arith
 
   -- a refused call takes none
   pub called-sparse : Sparse (length xs / 2) (called r xs zs ys).produced

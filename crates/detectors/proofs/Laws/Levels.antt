@@ -1,5 +1,6 @@
 -- The lock detector: the turns that a constellation allows leave the lock measure as it is, and levels alike stay
 -- alike under it, with the same lock. Assumes nothing.
+use Rattle.std.specs.Prelude.{Some, None}
 use mathlib.Core.Path.{◌≡◌, ap}
 use Prim.Native.Nat.{ℕ, ◌+◌, ◌*◌}
 use mathlib.Core.Bool.{Bool, cond}
@@ -15,16 +16,14 @@ use Rattle.numbers.proofs.Laws.Denormal.{like-flush}
 use Rattle.constellations.specs.declared.kinds.CostasConstellation.{CostasConstellation}
 use Rattle.constellations.specs.Octant.{decision_of}
 use Rattle.detectors.specs.declared.lock.Lock.{Lock}
-use Rattle.detectors.specs.declared.lock.Metric.{Metric}
-use Rattle.detectors.specs.declared.lock.Metric.TheVariants.{Number, Nothing}
-use Rattle.detectors.specs.Lock.{metric_of, smoothed, lock_after, watched}
+use Rattle.detectors.specs.Lock.{Metric, metric_of, smoothed, lock_after, watched}
 use Rattle.detectors.specs.Turns.{Allowed}
 use Rattle.detectors.proofs.Laws.Turning.{same-measured}
 
 -- ---- the measure of a turned sample
 pub same-metric : (c : CostasConstellation) (k m : ℕ) → Allowed c k m → (y : C32) {v : C32} → Turned (k + 3 * m) y v → metric_of c v (decision_of c v) ≡ metric_of c y (decision_of c y)
 unfolding metric_of
-same-metric c k m a y h = ap (λ (x : Float). cond (finite x) (Number x) Nothing) (same-measured c k m a y h)
+same-metric c k m a y h = ap (λ (x : Float). cond (finite x) (Some x) None) (same-measured c k m a y h)
 
 -- ---- levels alike
 pub record AlikeLock (k l : Lock) : Type 0 where
@@ -41,5 +40,5 @@ same-held e p = rw (e, like-lt (like-refl half₀) p, like-lt p (like-refl (deci
 
 pub alike-watched : {k l : Lock} (m : Metric) → AlikeLock k l → AlikeLock (watched k m) (watched l m)
 unfolding watched
-alike-watched (Number m) h = let l = alike-smoothed m h.level in record { level = l; locked = same-held h.locked l }
-alike-watched Nothing h = h
+alike-watched (Some m) h = let l = alike-smoothed m h.level in record { level = l; locked = same-held h.locked l }
+alike-watched None h = h

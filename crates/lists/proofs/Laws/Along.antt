@@ -1,14 +1,15 @@
 -- A test of two lists, walked side by side, and what it says of the entries at one place;
 -- and the entries of a list that is thinned or reversed. Holds for any lists. Assumes nothing.
-use mathlib.Core.Path.{◌≡◌, refl, subst}
+use mathlib.Core.Path.{◌≡◌, refl, ap, ◌∙◌}
 use mathlib.Core.Bool.{Bool, true, ◌&&◌}
-use mathlib.Core.List.{List, [], ◌∷◌, reverse, reverse_aux}
-use Prim.Native.Nat.{ℕ, zero, suc, ◌+◌, ◌<◌, ◌≤◌}
-use native.Mathlib.Nat.{add-zero, zero-add, add-suc, suc-add, le_of_suc-le-suc, not-suc-le-zero}
+use mathlib.Core.List.{List, [], ◌∷◌, reverse}
+use Prim.Native.Nat.{ℕ, zero, suc, ◌+◌, ◌-◌, ◌<◌, ◌≤◌}
+use native.Mathlib.Nat.{add-zero, add-suc, suc-add, le_of_suc-le-suc, not-suc-le-zero}
 use native.Mathlib.Omega.{arith}
 use lib.Dec.{T}
 use lib.ListN.{length, get_or}
 use lib.Ieee.Fits.{and_l, and_r}
+use Rattle.std.proofs.lemmas.List.{get_or-reverse}
 
 module _ {A : Type 0} where
   -- ---- the walks
@@ -68,14 +69,5 @@ module _ {A : Type 0} where
   length-thinned (x ∷ y ∷ l) = omega (arith, length-thinned l)
 
   -- ---- an entry of a reversed list
-  past : (l r : List A) (k : ℕ) (d : A) → get_or (reverse_aux l r) (length l + k) d ≡ get_or r k d
-  past [] r k d = rw zero-add
-  past (x ∷ l) r k d = rw (suc-add (length l) k, ← add-suc (length l) k) (past l (x ∷ r) (suc k) d)
-
-  back : (l r : List A) (i j : ℕ) (d : A) → suc (i + j) ≡ length l → get_or (reverse_aux l r) i d ≡ get_or l j d
-  back [] r i j d e = absurd (omega arith)
-  back (x ∷ l) r i zero d e = subst (λ (n : ℕ). get_or (reverse_aux l (x ∷ r)) n d ≡ x) (omega arith) (past l (x ∷ r) 0 d)
-  back (x ∷ l) r i (suc j) d e = back l (x ∷ r) i j d (omega arith)
-
   pub get_or_reverse : (l : List A) (i j : ℕ) (d : A) → suc (i + j) ≡ length l → get_or (reverse l) i d ≡ get_or l j d
-  get_or_reverse l i j d e = back l [] i j d e
+  get_or_reverse l i j d e = let f : length l - 1 - i ≡ j = omega arith in get_or-reverse l i d (omega arith) ∙ ap (λ (n : ℕ). get_or l n d) f

@@ -5,15 +5,16 @@ use mathlib.Core.List.{List, [], ◌∷◌, ◌++◌, append_assoc, append-nil}
 use Prim.Native.Nat.{ℕ, zero, suc, ◌+◌, ◌-◌, ◌*◌, ◌/◌, ◌%◌, ◌^◌, ◌<◌, ◌≤◌}
 use native.Mathlib.Omega.{arith}
 use lib.Dec.{T}
-use lib.ListN.{length, length-append, length-take, length-drop, get_or, take, drop, set}
-use lib.Seq.{sets, sets-eq, take_all, take-append_seam, length-take-le}
+use lib.ListN.{length, length-append, length-take, length-drop, get_or, take, drop}
+use borrow.Rule.Slice.PartMut.{put_mid}
+use lib.Seq.{drop-drop, sets, sets-eq, take_all, take-append_seam, length-take-le}
 use lib.Ieee.{Float, binary32, fits, of_bits, to_bits}
 use lib.Ieee.Bits.{of_bits-to_bits, to_bits-lt}
 use Rattle.ieee.specs.Notation.{zero₀}
 use Rattle.little_endian.specs.Bytes.{little_endian, bytes_of}
 use Rattle.little_endian.specs.Samples.{floats, bytes, whole_samples, read}
 use Rattle.little_endian.proofs.Laws.LittleEndian.{bytes-spell}
-use Rattle.lists.proofs.Laws.Reading.{take_more}
+use Rattle.std.proofs.lemmas.List.{take_more}
 use Rattle.lists.proofs.Laws.Stores.{Stored, goes_on}
 
 -- ---- the f32 of bytes
@@ -48,9 +49,6 @@ module _ (l : List ℕ) (k : ℕ) (there : k < length l / 4) where
   part_length : length part ≡ 4
   part_length = rw (length-take, length-drop) (omega arith)
 
-  pub part-fits : {x : ℕ} → x < 256 ^ length part → x < 2 ^ 32
-  part-fits {x} h = rw part_length at h
-
   pub part-float : {x : ℕ} → x ≡ little_endian (take 8 part) → of_bits binary32 x ≡ get_or (floats l) k zero₀
   part-float {x} e = ap (of_bits binary32) (e ∙ ap little_endian (take_all 8 part (omega (arith, part_length)) ∙ part-four)) ∙ sym (floats_at l k zero₀ there)
 
@@ -66,7 +64,7 @@ read-front bs ys {k} e =
     ap (λ (i : ℕ). take (2 * i) (read bs ys)) e ∙ ap (λ (i : ℕ). take i (read bs ys)) (sym long) ∙ front-stored ys v (omega arith) ∙ ap (λ (i : ℕ). take (2 * i) (floats bs)) (sym e)
 
 -- ---- the bytes of f32
-length-four : (x : ℕ) → length (bytes_of 4 x) ≡ 4
+pub length-four : (x : ℕ) → length (bytes_of 4 x) ≡ 4
 unfolding bytes_of
 length-four x = refl
 
@@ -81,16 +79,21 @@ unfolding bytes
 bytes-more [] x = append-nil (bytes_of 4 (to_bits binary32 x))
 bytes-more (y ∷ l) x = ap (λ (m : List ℕ). bytes_of 4 (to_bits binary32 y) ++ m) (bytes-more l x) ∙ sym (append_assoc (bytes_of 4 (to_bits binary32 y)) (bytes l) (bytes_of 4 (to_bits binary32 x)))
 
--- four stores are those of a number's bytes
-pub four-stored : (l : List ℕ) (i x : ℕ) → x < 2 ^ 32 → set (set (set (set l i (x % 256)) (i + 1) (x / 256 % 256)) (i + 2) (x / 65536 % 256)) (i + 3) (x / 16777216) ≡ sets l i (bytes_of 4 x)
+-- the library's bytes of a number are those of the definition
+pub le-bytes : (x : ℕ) → x < 2 ^ 32 → x % 256 ∷ x / 256 % 256 ∷ x / 65536 % 256 ∷ x / 16777216 % 256 ∷ [] ≡ bytes_of 4 x
 unfolding bytes_of
-four-stored l i x h =
-    let a : i + 1 ≡ suc i = omega arith in
-    let b : i + 2 ≡ suc (suc i) = omega arith in
-    let c : i + 3 ≡ suc (suc (suc i)) = omega arith in
+le-bytes x h =
     let d : x / 65536 % 256 ≡ x / 256 / 256 % 256 = omega arith in
-    let e : x / 16777216 ≡ x / 256 / 256 / 256 % 256 = omega arith in
-    rw (a, b, c, d, e)
+    let e : x / 16777216 % 256 ≡ x / 256 / 256 / 256 % 256 = omega arith in
+    rw (d, e)
+
+-- four bytes in their place, as the code lends it
+pub four-stored : (l : List ℕ) (k : ℕ) → k < length l / 4 → {ys zs : List ℕ} → ys ≡ zs → length zs ≡ 4 → put_mid (4 * k) (4 * k + 4 - 4 * k) l ys ≡ sets l (4 * k) zs
+four-stored l k there {ys} {zs} e n =
+    let a : 4 * k + 4 - 4 * k ≡ length zs = omega arith in
+    (λ j. put_mid (4 * k) (a j) l (e j))
+    ∙ ap (λ (m : List ℕ). take (4 * k) l ++ (zs ++ m)) (drop-drop (length zs) (4 * k) l)
+    ∙ sym (append_assoc (take (4 * k) l) zs (drop (4 * k + length zs) l)) ∙ sym (sets-eq zs l (4 * k) (omega arith))
 
 pub no_bytes : (xs : List Float) → bytes (take 0 xs) ≡ []
 unfolding bytes

@@ -1,13 +1,12 @@
 -- Little-endian numbers: one byte more, how large they can be, and that a number's bytes spell it. Assumes nothing.
-use mathlib.Core.Path.{◌≡◌, ap, ◌∙◌}
-use mathlib.Core.List.{List, [], ◌∷◌}
-use Prim.Native.Nat.{ℕ, zero, suc, ◌+◌, ◌-◌, ◌*◌, ◌/◌, ◌^◌, ◌<◌, min}
+use mathlib.Core.Path.{◌≡◌, refl, ap, ◌∙◌}
+use mathlib.Core.List.{List, [], ◌∷◌, ◌++◌}
+use Prim.Native.Nat.{ℕ, zero, suc, ◌+◌, ◌-◌, ◌*◌, ◌/◌, ◌^◌, ◌<◌, ◌≤◌, min}
 use native.Mathlib.Nat.{pow-succ', pow-le-pow_right}
-use native.Mathlib.Numerals.{add-one}
 use native.Mathlib.Omega.{arith}
-use lib.ListN.{length, get_or, take, drop, length-take, length-drop, drop_of_length-le}
-use lib.Seq.{take_all, drop-cons, get_or-drop, get_or-take}
-use Rattle.lists.proofs.Laws.Reading.{drop-within}
+use lib.ListN.{length, get_or, take, drop, length-take, length-drop}
+use lib.Seq.{take_all}
+use Rattle.std.proofs.lemmas.List.{take_min, drop_min}
 use Rattle.little_endian.specs.Bytes.{little_endian, bytes_of}
 
 -- what is stored in a slice of u8
@@ -19,9 +18,6 @@ bytes_take zero l h i = omega arith
 bytes_take (suc n) [] h i = omega arith
 bytes_take (suc n) (b ∷ l) h zero = h 0
 bytes_take (suc n) (b ∷ l) h (suc i) = bytes_take n l (λ j. h (suc j)) i
-
-bytes_drop : (n : ℕ) (l : List ℕ) → Bytes l → Bytes (drop n l)
-bytes_drop n l h i = rw (get_or-drop n l i 0) (h (n + i))
 
 below : (l : List ℕ) → Bytes l → little_endian l < 256 ^ length l
 unfolding little_endian
@@ -40,32 +36,52 @@ bytes-spell (suc n) x h =
     let rest = bytes-spell n (x / 256) (omega arith) in
     omega arith
 
--- ---- the first eight bytes, from the last to the first
-module _ (l : List ℕ) where
-  -- behind the last there is nothing
-  pub none-spelled : (i : ℕ) → i ≡ min (length l) 8 → 0 ≡ little_endian (drop i (take 8 l))
-  unfolding little_endian
-  none-spelled i e = rw (drop_of_length-le (take 8 l) {i = i} (rw length-take (omega arith)))
+-- ---- the first eight bytes
+module _ (l : List ℕ) (h : Bytes l) where
+  eight : Bytes (take 8 l)
+  eight = bytes_take 8 l h
 
-  module _ (h : Bytes l) where
-    eight : Bytes (take 8 l)
-    eight = bytes_take 8 l h
+  pub eight-below : little_endian (take 8 l) < 256 ^ length l
+  eight-below = let a = below (take 8 l) eight in let b = pow-le-pow_right {n = 256} (omega arith) {i = length (take 8 l)} {j = length l} (rw length-take (omega arith)) in omega arith
 
-    pub eight-below : little_endian (take 8 l) < 256 ^ length l
-    eight-below = let a = below (take 8 l) eight in let b = pow-le-pow_right {n = 256} (omega arith) {i = length (take 8 l)} {j = length l} (rw length-take (omega arith)) in omega arith
+  -- they fit 64 bits
+  eight-fit : little_endian (take 8 l) < 2 ^ 64
+  eight-fit = let a = below (take 8 l) eight in let b = pow-le-pow_right {n = 256} (omega arith) {i = length (take 8 l)} {j = 8} (rw length-take (omega arith)) in omega arith
 
-    module _ (i : ℕ) (there : i < length l) (near : i < 8) where
-      pub byte_more : get_or l i 0 + 256 * little_endian (drop (i + 1) (take 8 l)) ≡ little_endian (drop i (take 8 l))
-      unfolding little_endian
-      byte_more = rw (drop-cons (take 8 l) i 0 (rw length-take (omega arith)), get_or-take 8 l i 0 near, add-one)
+-- as the code lends them
+pub first-eight : (l : List ℕ) (n : ℕ) → n ≡ min (length l) 8 → take n l ≡ take 8 l
+first-eight l n e = let f : n ≡ min 8 (length l) = omega arith in ap (λ (k : ℕ). take k l) f ∙ take_min 8 l
 
-      -- it fits 64 bits
-      pub room : get_or l i 0 + 256 * little_endian (drop (i + 1) (take 8 l)) < 2 ^ 64
-      room =
-          let a = below (drop i (take 8 l)) (bytes_drop i (take 8 l) eight) in
-          let b = pow-le-pow_right {n = 256} (omega arith) {i = length (drop i (take 8 l))} {j = 8} (rw (length-drop, length-take) (omega arith)) in
-          rw byte_more (omega arith)
+-- ---- from the last byte to the first: what bytes spell in front of the number of those behind them
+unfoldable pub onto : List ℕ → ℕ → ℕ
+onto [] v = v
+onto (b ∷ l) v = b + 256 * onto l v
+
+pub onto-none : (l : List ℕ) → onto l 0 ≡ little_endian l
+unfolding onto little_endian
+onto-none [] = refl
+onto-none (b ∷ l) = ap (λ (n : ℕ). b + 256 * n) (onto-none l)
+
+pub onto-last : (l : List ℕ) (b v : ℕ) → onto (l ++ (b ∷ [])) v ≡ onto l (b + 256 * v)
+unfolding onto
+onto-last [] b v = refl
+onto-last (a ∷ l) b v = ap (λ (n : ℕ). a + 256 * n) (onto-last l b v)
+
+onto-least : (l : List ℕ) (v : ℕ) → v ≤ onto l v
+unfolding onto
+onto-least [] v = omega arith
+onto-least (b ∷ l) v = let h = onto-least l v in omega arith
+
+-- the byte before those fits in front of their number
+pub last-fits : (all : List ℕ) → Bytes all → (l : List ℕ) (b v : ℕ) → onto (l ++ (b ∷ [])) v ≡ little_endian (take 8 all) → b + 256 * v < 2 ^ 64
+last-fits all h l b v e = let a = onto-least l (b + 256 * v) in let c = onto-last l b v in let d = eight-fit all h in omega arith
+
+-- where no byte is left, the value is the number
+pub all-spelled : (l : List ℕ) {v n : ℕ} → length l ≡ 0 → onto l v ≡ n → v ≡ n
+unfolding onto
+all-spelled [] z e = e
+all-spelled (b ∷ l) z e = absurd (omega arith)
 
 -- ---- the eight bytes from a place on, as the code takes them: the rest of the slice from there, or nothing past its end
 pub rest-spelled : (l : List ℕ) (from : ℕ) {at : ℕ} → at ≡ min from (length l) → little_endian (take 8 (take (length l - at) (drop at l))) ≡ little_endian (take 8 (drop from l))
-rest-spelled l from {at} e = ap (λ (m : List ℕ). little_endian (take 8 m)) (take_all (length l - at) (drop at l) (rw length-drop (omega arith)) ∙ ap (λ (n : ℕ). drop n l) e ∙ drop-within l from)
+rest-spelled l from {at} e = ap (λ (m : List ℕ). little_endian (take 8 m)) (take_all (length l - at) (drop at l) (rw length-drop (omega arith)) ∙ ap (λ (n : ℕ). drop n l) e ∙ drop_min from l)

@@ -3,12 +3,11 @@
 use Rattle.std.proofs.Common.{◌≡◌, ℕ, zero, suc, ◌+◌, ◌-◌, ◌*◌, ◌/◌, ◌%◌, ◌^◌, ◌<◌, ◌≤◌, min, Bool, true, false, not, T, eqb, ltb, leb, pos, sym, refl, ap, ◌∙◌, subst, inl, inr, le_trans, le_of_eq, lt_of_lt_of_le, lt_of_le_of_lt, lt_irrefl, mul-le-mul_right, mod-lt, zero-lt-suc, mul-pos, zero-add, zero-mul, arith, lit≤, pow_pos, pow_mono, pow-add, shl_lt, le-ltb, lt-ltb}
 use native.Mathlib.Nat.{min-eq_left, min-eq_right}
 use lib.Arith.{lt_of_le-ne}
-use lib.Ieee.{Float, fin, binary32, neg, lt, fits, is_nan, of_fields, of_bits, to_bits}
+use lib.Ieee.{Float, fin, binary32, neg, lt, fits, of_fields, of_bits, to_bits}
 use lib.Ieee.Bits.{of_bits-to_bits, to_bits-lt}
 use lib.Ieee.Exact.{HasValue}
 use lib.Ieee.Scale.{finite}
 use Rattle.ieee.proofs.Laws.Test.{order}
-use Rattle.ieee.proofs.Laws.Nan.{finite-not-nan}
 use Rattle.ieee.proofs.Laws.NotFinite.{inf-or-nan}
 use Rattle.ieee.proofs.Laws.Round.{neg_value}
 use Rattle.ieee.proofs.Laws.Held.{pow_below}
@@ -16,7 +15,7 @@ use Rattle.ieee.proofs.Laws.Bits.{low_value, normal-value, sign_bit}
 use Rattle.ieee.proofs.Laws.Order.{has-val, lt→vals, inside-finite}
 use Rattle.modulate.specs.Step.{wrapped, rounded, phase_step, bits_range}
 use Rattle.modulate.proofs.Laws.Rounded.{rounded-same, rounded-small, step_of}
-use Rattle.modulate.proofs.Laws.StepBits.{quotient, shift-halved, shift_small, shift-room}
+use Rattle.modulate.proofs.Laws.StepBits.{quotient, shift-halved, shift-room}
 
 -- ---- the value that the bits stand for
 -- the exponent's field, and the digits
@@ -66,9 +65,6 @@ finite-field b h =
 -- ---- below 2^14 in size
 small-finite : (v : Float) → T (lt (neg bits_range) v) → T (lt v bits_range) → T (finite v)
 small-finite v h k = inside-finite bits_range v tt h k
-
-pub small-number : (v : Float) → T (lt (neg bits_range) v) → T (lt v bits_range) → T (not (is_nan v))
-small-number v h k = finite-not-nan v (small-finite v h k)
 
 size-lt : (v : Float) (s : Bool) (a c : ℕ) → 0 < c → HasValue v s a c → T (lt (neg bits_range) v) → T (lt v bits_range) → a < 2 ^ 14 * c
 unfolding neg
@@ -141,12 +137,6 @@ module _ (v : Float) (held : T (fits binary32 v)) (lo : T (lt (neg bits_range) v
       let b = to_bits binary32 v in
       let l = field-le in
       shift-room (shifted (digits b)) (places (field b)) (omega arith) (omega arith) (omega arith)
-
-  pub quotient-lt : bits_quotient (to_bits binary32 v) < 2 ^ 50
-  quotient-lt =
-      let b = to_bits binary32 v in
-      let l = field-le in
-      shift_small (shifted (digits b)) (places (field b)) (omega arith) (omega arith) (omega arith) (ltb b (2 ^ 31))
 
   pub step-of-bits : bits_quotient (to_bits binary32 v) / 2 % 2 ^ 32 ≡ phase_step v
   step-of-bits =

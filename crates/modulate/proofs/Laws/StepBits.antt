@@ -1,6 +1,6 @@
 -- The arithmetic of the shift: ±m moved up by 2^63 has no sign, and what its quotient by 2^k gives, moved back, is
 -- floor(±m / 2^(k + 1) + 1/2) modulo 2^32. Assumes nothing.
-use Rattle.std.proofs.Common.{◌≡◌, ℕ, ◌+◌, ◌-◌, ◌*◌, ◌/◌, ◌%◌, ◌^◌, ◌<◌, ◌≤◌, Bool, true, false, cond, not, sym, ap, ◌∙◌, mul-le-mul_right, div-lt_iff_lt-mul, div-mul-le_self, le_of_mul-le-mul_right, arith, pow_pos, pow_mono, pow-add}
+use Rattle.std.proofs.Common.{◌≡◌, ℕ, ◌+◌, ◌-◌, ◌*◌, ◌/◌, ◌%◌, ◌^◌, ◌<◌, ◌≤◌, Bool, true, false, cond, not, sym, ap, ◌∙◌, mul-le-mul_right, div-mul-le_self, le_of_mul-le-mul_right, arith, pow_pos, pow_mono, pow-add}
 use native.Mathlib.Nat.{mul-add-div_right, lt-div-mul-add, div-eq_of_lt-le}
 use Rattle.modulate.specs.Step.{wrapped, rounded}
 use Rattle.modulate.proofs.Laws.Rounded.{rounded-unique}
@@ -62,14 +62,6 @@ module _ (m b d : ℕ) (B : 0 < b) (D : 0 < d) (e : b * d ≡ 2 ^ 63) (low : b �
       let x : q + (2 ^ 48 - (b - 1)) ≡ 2 ^ 48 + 1 - (b - q) = omega arith in
       rw (taken-off, r, x, halved-below (b - q) (omega arith)) (wraps-back ((b - q) / 2) (omega arith))
 
-  quotient-small : (p : Bool) → quotient p m d < 2 ^ 50
-  quotient-small true =
-      let k : m / d < b = (div-lt_iff_lt-mul D).1 (omega arith) in
-      rw (taken-off, put_on) (omega arith)
-  quotient-small false =
-      let k : (2 ^ 63 - m) / d < b + 1 = (div-lt_iff_lt-mul D).1 (omega arith) in
-      rw taken-off (omega arith)
-
 -- for the counts that the code shifts by
 module _ (m k : ℕ) (least : 16 ≤ k) (most : k ≤ 63) (h : m < 2 ^ 63) where
   split : 2 ^ (63 - k) * 2 ^ k ≡ 2 ^ 63
@@ -80,9 +72,6 @@ module _ (m k : ℕ) (least : 16 ≤ k) (most : k ≤ 63) (h : m < 2 ^ 63) where
 
   pub shift-halved : (p : Bool) → quotient p m (2 ^ k) / 2 % 2 ^ 32 ≡ wrapped (not p) (rounded (not p) m (2 * 2 ^ k))
   shift-halved = halved m (2 ^ (63 - k)) (2 ^ k) (pow_pos (63 - k)) (pow_pos k) split room h
-
-  pub shift_small : (p : Bool) → quotient p m (2 ^ k) < 2 ^ 50
-  shift_small = quotient-small m (2 ^ (63 - k)) (2 ^ k) (pow_pos (63 - k)) (pow_pos k) split room h
 
   pub shift-room : (2 ^ 63 - 1) / 2 ^ k ≤ 2 ^ 47
   shift-room = rw (taken-off m (2 ^ (63 - k)) (2 ^ k) (pow_pos (63 - k)) (pow_pos k) split room h) (let g = room in omega arith)

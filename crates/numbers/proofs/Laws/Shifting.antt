@@ -93,25 +93,3 @@ pub shed : (i : ℕ) (lost more : Bool) (p : ℕ) → 0 < p → ((lost ≡ true)
     → closest (i / 2 * 2 + cond more 1 0) (2 ^ (p - 1 + 2)) ≡ closest (i * 2 + cond lost 1 0) (2 ^ (p + 2))
 shed i lost more p h (inl w) = rw (w.0, w.1) (shed-lost i p h)
 shed i lost more p h (inr w) = rw (w.0, w.1) (shed-clean i p h)
-
--- ---- the last place
-pub last-lost : (i : ℕ) (lost : Bool) (p : ℕ) → p ≡ 0 → lost ≡ true → i / 2 + i % 2 ≡ closest (i * 2 + cond lost 1 0) (2 ^ (p + 2))
-last-lost i lost p e l = rw (e, l) (go (compare ((i * 2 + 1) % 4 * 2) 4) (compared ((i * 2 + 1) % 4 * 2) 4))
-  where
-    go : (o : Ordering) → Compared o ((i * 2 + 1) % 4 * 2) 4 → i / 2 + i % 2 ≡ nearest ((i * 2 + 1) / 4) o
-    go Ordering.lt h = omega arith
-    go Ordering.eq h = omega arith
-    go Ordering.gt h = omega arith
-
-pub last-clean : (i : ℕ) (lost : Bool) (p : ℕ) → p ≡ 0 → lost ≡ false → i / 2 + i % 4 / 3 ≡ closest (i * 2 + cond lost 1 0) (2 ^ (p + 2))
-last-clean i lost p e l = rw (e, l) (go (compare ((i * 2 + 0) % 4 * 2) 4) (compared ((i * 2 + 0) % 4 * 2) 4))
-  where
-    go : (o : Ordering) → Compared o ((i * 2 + 0) % 4 * 2) 4 → i / 2 + i % 4 / 3 ≡ nearest ((i * 2 + 0) / 4) o
-    go Ordering.lt h = omega arith
-    go Ordering.eq h =
-        let q : (i * 2 + 0) / 4 ≡ i / 2 = omega arith in
-        let x : i % 2 ≡ 1 = omega arith in
-        let y : i % 4 ≡ i / 2 % 2 * 2 + i % 2 = mod-mul i (omega arith) (omega arith) in
-        let z : i % 4 / 3 ≡ i / 2 % 2 = omega arith in
-        rw q (omega arith)
-    go Ordering.gt h = omega arith

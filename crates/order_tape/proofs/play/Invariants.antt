@@ -1,12 +1,8 @@
--- The loop of `order_tape::play`: the buffers keep their lengths, and what is on the desk is given. The measure is how
--- many commands may follow.
+-- The loop of `order_tape::play`: the buffers keep their lengths, and what is on the desk is given.
 use mathlib.Core.Path.{◌≡◌}
 use lib.ListN.{length}
 use Rattle.tape.specs.Desk.{Given}
 use Rattle.order_tape.proofs.play.Given as goal
 
-abbrev pub invariant-loop-left : goal.invariant-loop-left
-invariant-loop-left g l = (length l.bytes ≡ 16387) × ((length l.symbols ≡ 16384) × Given l.desk)
-
-abbrev pub decreases-loop-left : goal.decreases-loop-left
-decreases-loop-left g l = l.left
+abbrev pub invariant-loop : goal.invariant-loop
+invariant-loop g l = (length l.bytes ≡ 16387) × ((length l.symbols ≡ 16384) × Given l.desk)

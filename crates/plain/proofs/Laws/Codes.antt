@@ -1,6 +1,7 @@
 -- The numbers that stand for the enums: each enum's value has its own, and a number that is one of them stands for
 -- that value; a code is defined exactly if it is one of them; a symbol's code is that of none exactly if it reads none,
 -- or no constellation has the code under which it is read. Assumes nothing.
+use Rattle.std.specs.Prelude.{None}
 use mathlib.Core.Path.{◌≡◌, refl, sym, ap, ◌∙◌, subst}
 use mathlib.Core.Bool.{Bool, true, false, cond}
 use mathlib.Core.Logic.{◌⊎◌, inl, inr}
@@ -15,9 +16,7 @@ use Rattle.timing.specs.declared.params.Ted.{Ted}
 use Rattle.timing.specs.declared.params.Ted.TheVariants.{Gardner, MuellerMuller}
 use Rattle.constellations.specs.declared.kinds.CostasConstellation.{CostasConstellation}
 use Rattle.constellations.specs.declared.kinds.CostasConstellation.TheVariants.{Bpsk, Qpsk, Psk8}
-use Rattle.symbol_numbers.specs.declared.symbol.SymbolNumber.{SymbolNumber}
-use Rattle.symbol_numbers.specs.declared.symbol.SymbolNumber.TheVariants.{None}
-use Rattle.symbol_numbers.specs.Symbol.{symbol_of, NoSymbol}
+use Rattle.symbol_numbers.specs.Symbol.{SymbolNumber, symbol_of, NoSymbol}
 use Rattle.symbol_numbers.proofs.Laws.Symbol.{Reads, nothing, something, reads, none-exactly, number-otherwise, number-below-eight}
 use Rattle.plain.specs.Codes.{detector_named, detector_of, detector_code, constellation_named, constellation_of, constellation_code, symbol_under, symbol_code}
 

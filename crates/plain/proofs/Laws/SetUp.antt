@@ -34,6 +34,6 @@ module _ {A : Type 0} (number : A → ℕ) (refuse : Refusal → A) (refused : (
   pub codes-exactly : (named : Bool) (a : A) (l : List Row) → Exactly (number a) l → Exactly (number (or_undefined number refuse named a)) (l ++ codes_row named ∷ [])
   codes-exactly named a l x = exactly-append (number a) (number (or_undefined number refuse named a)) l (codes_row named ∷ []) x (after-accepted named a) (after-refused named a)
 
--- L3: the record z of a refusal is that of the answer, and has another number than 0
+-- L3: the record z of a refusal is that of the answer, and has another number than 0; docs/code-not-defined.patch cites it
 pub refused-record : {A Z P : Type 0} (refuse : Refusal → A) (record_of : A → Z) (number : Z → ℕ) → ((n : Refusal) → number (record_of (refuse n)) ≡ number_of n) → (n : Refusal) {a : A} {z : Z} → z ≡ record_of (refuse n) → a ≡ refuse n → (z ≡ record_of a) × (number z ≡ 0 → P)
 refused-record refuse record_of number same n e f = (e ∙ sym (ap record_of f), refused-not-done n (ap number e ∙ same n))

@@ -1,8 +1,5 @@
 -- L1: the record whose count has 64 bits stands for the receiver faithfully. Assumes nothing.
 use mathlib.Core.Path.{◌≡◌, sym, subst}
-use Rattle.complex_sync.specs.Views.{sync}
-use Rattle.complex_sync.specs.Views as complex
-use Rattle.receiver_records.specs.declared.record.Receiver64 as declaredReceiver
 use Rattle.receiver_records.specs.Records as records
 use Rattle.plain.specs.Faithful.{Faithful}
 use Rattle.plain.proofs.Laws.Codes.{detector-below, constellation-below}
@@ -11,8 +8,8 @@ use Rattle.plain_carrier.proofs.Laws.Faithful.{carrier-faithful}
 use Rattle.plain_records.specs.declared.record.Receiver64.{Receiver64}
 use Rattle.plain_records.specs.Records.{receiver64_of, record64_of, Given64}
 
-state-back : (r : declaredReceiver.Receiver64) → receiver64_of (record64_of r) ≡ r
-state-back r = λ j. record { timing = complex.state_of (complex-faithful.state-back (sync r.timing) j); carrier = carrier-faithful.state-back r.carrier j; count = r.count }
+state-back : (r : records.Receiver64) → receiver64_of (record64_of r) ≡ r
+state-back r = λ j. record { timing = complex-faithful.state-back r.timing j; carrier = carrier-faithful.state-back r.carrier j; count = r.count }
 
 record-back : (x : Receiver64) → Given64 x → record64_of (receiver64_of x) ≡ x
 record-back x g =

@@ -18,10 +18,10 @@ pub block-accepted : (n : ℕ) (r : Receiver) (none : ℕ) (xs : List Float) →
 unfolding received
 block-accepted zero r none xs even = refl
 block-accepted (suc n) r none xs even =
-    let z = called_of none (call_on r xs) true in
+    let z = called_of none (call_on r xs) in
     let rest = drop (2 * z.counts.consumed) xs in
     by (final xs (call_on r xs)) (received n z.receiver z.none rest) (block-accepted n z.receiver z.none rest (rw length-drop (omega arith)))
   where
-    by : (b : Bool) (next : Received) → next.number ≡ 0 → (cond b (ended_by (called_of none (call_on r xs) true)) next).number ≡ 0
+    by : (b : Bool) (next : Received) → next.number ≡ 0 → (cond b (ended_by (called_of none (call_on r xs))) next).number ≡ 0
     by true next e = call-accepted r xs even
     by false next e = e

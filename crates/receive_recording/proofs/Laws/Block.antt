@@ -1,29 +1,20 @@
 -- The loop over a block: what the definition makes of the rest of the block, from here, is what it makes of
 -- the whole. Assumes nothing.
-use mathlib.Core.Path.{◌≡◌, refl, sym, ap, ◌∙◌, subst}
-use mathlib.Core.Bool.{Bool, true, false, not, ◌||◌, cond}
+use mathlib.Core.Path.{◌≡◌, sym, ap, ◌∙◌}
+use mathlib.Core.Bool.{Bool, ◌||◌, cond}
 use mathlib.Core.List.{List}
 use Prim.Native.Nat.{ℕ, suc, ◌+◌, ◌-◌, ◌*◌, ◌/◌, ◌≤◌, ◌<◌}
 use native.Mathlib.Omega.{arith}
-use lib.Dec.{T, leb}
+use lib.Dec.{leb}
 use lib.ListN.{length, length-drop, take, drop}
 use lib.Seq.{take_all, drop-drop}
 use lib.Ieee.{Float}
 use borrow.Author.Tests.{eq-eqb, ne_eqb, le-leb, lt-leb}
-use Rattle.ieee.proofs.Laws.Test.{not-false}
 use Rattle.receiver.specs.Record.{Receiver, Given}
 use Rattle.sample_calls.specs.Call.{Outcome}
 use Rattle.receive_recording.specs.declared.block.Called.{Called}
 use Rattle.receive_recording.specs.declared.block.Received.{Received}
 use Rattle.receive_recording.specs.Block.{call_on, called_of, ended_by, final, received}
-
--- ---- the test of the loop says that the symbols were not written
-pub unwritten : (h : Called) {z : Received} → z ≡ ended_by h → not h.written ≡ true → T z.written → ⊥
-unwritten h e off on = go h.written off (subst T (ap (λ (q : Received). q.written) e) on)
-  where
-    go : (b : Bool) → not b ≡ true → T b → ⊥
-    go true e on = subst T (sym e) tt
-    go false e on = on
 
 -- ---- the invariant: the block is received up to place `at`, and `left` calls may follow
 pub record Underway (xs : List Float) (r₀ r : Receiver) (none₀ none at left : ℕ) : Type 0 where
@@ -31,27 +22,24 @@ pub record Underway (xs : List Float) (r₀ r : Receiver) (none₀ none at left 
   pub given : Given r
   pub shows : received left r none (drop at xs) ≡ received (length xs) r₀ none₀ xs
 
-pub begins : (xs : List Float) {r : Receiver} (none : ℕ) → Given r → Underway xs r r none none 0 (length xs)
-begins xs none g = record { within = omega arith; given = g; shows = refl }
-
 module _ {xs : List Float} {r₀ r : Receiver} {none₀ none at left : ℕ} (u : Underway xs r₀ r none₀ none at left) where
   -- no call may follow
-  pub ends-full : left ≤ 0 → record { number = 0; receiver = r; none = none; written = true } ≡ received (length xs) r₀ none₀ xs
+  pub ends-full : left ≤ 0 → record { number = 0; receiver = r; none = none } ≡ received (length xs) r₀ none₀ xs
   unfolding received
   ends-full full = let e : left ≡ 0 = omega arith in ap (λ (n : ℕ). received n r none (drop at xs)) (sym e) ∙ u.shows
 
   -- ---- a call with what is left, as the code lends it
-  module _ (more : 0 < left) {h : Called} (e : h ≡ called_of none (call_on r (take (length xs - at) (drop at xs))) h.written) (put : not h.written ≡ false) where
+  module _ (more : 0 < left) {h : Called} (e : h ≡ called_of none (call_on r (take (length xs - at) (drop at xs)))) where
     o : Outcome
     o = call_on r (drop at xs)
 
-    same : h ≡ called_of none o true
+    same : h ≡ called_of none o
     unfolding o
-    same = e ∙ (λ j. called_of none (call_on r (take_all (length xs - at) (drop at xs) (rw length-drop (omega arith)) j)) (not-false h.written put j))
+    same = e ∙ (λ j. called_of none (call_on r (take_all (length xs - at) (drop at xs) (rw length-drop (omega arith)) j)))
 
     -- it ends the block, or calls with what it leaves follow
     abbrev next : Bool → Received
-    next last = let z = called_of none o true in cond last (ended_by z) (received (left - 1) z.receiver z.none (drop (2 * o.consumed) (drop at xs)))
+    next last = let z = called_of none o in cond last (ended_by z) (received (left - 1) z.receiver z.none (drop (2 * o.consumed) (drop at xs)))
 
     turn : received left r none (drop at xs) ≡ next (final (drop at xs) o)
     unfolding received o
@@ -82,13 +70,14 @@ module _ {xs : List Float} {r₀ r : Receiver} {none₀ none at left : ℕ} (u :
       ends-whole z = ap ended_by same ∙ by (by-consumed (le-leb (length (drop at xs) / 2) o.consumed (let a = half in let b = consumed in omega arith)))
 
       -- the next call takes what is left
-      pub goes_on : h.counts.consumed < (length xs - at) / 2 → Given h.receiver → Underway xs r₀ h.receiver none₀ h.none (at + 2 * h.counts.consumed) (left - 1)
-      goes_on z g =
+      pub goes_on : h.counts.consumed < (length xs - at) / 2 → Given h.receiver → {next : ℕ} → suc next ≡ left → Underway xs r₀ h.receiver none₀ h.none (at + 2 * h.counts.consumed) next
+      goes_on z g {next} n =
           record {
             within = let a = u.within in omega arith;
             given = g;
             shows =
-                (λ j. received (left - 1) (same j).receiver (same j).none (drop (at + 2 * (same j).counts.consumed) xs))
-                ∙ ap (received (left - 1) o.receiver (called_of none o true).none) (sym (drop-drop (2 * o.consumed) at xs))
+                ap (λ (k : ℕ). received k h.receiver h.none (drop (at + 2 * h.counts.consumed) xs)) (let m : next ≡ left - 1 = omega arith in m)
+                ∙ (λ j. received (left - 1) (same j).receiver (same j).none (drop (at + 2 * (same j).counts.consumed) xs))
+                ∙ ap (received (left - 1) o.receiver (called_of none o).none) (sym (drop-drop (2 * o.consumed) at xs))
                 ∙ by (by-consumed (lt-leb (length (drop at xs) / 2) o.consumed (let a = half in let b = consumed in omega arith)));
           }

@@ -38,7 +38,7 @@ module _ (w : Waiting) (given : Given w.receiver) (even : length w.rest % 2 ≡ 
   same-call : waits_after w (once places places lent) ≡ record { receiver = o.receiver; rest = drop (2 * o.consumed) w.rest }
   same-call = ap (λ (l : List Float). let q = called w.receiver l places places in record { receiver = q.receiver; rest = drop (2 * q.consumed) l }) (append-nil w.rest)
 
-  same_none : (none : ℕ) → none_with none (heard_on w (once places places lent)).outputs ≡ (called_of none o true).none
+  same_none : (none : ℕ) → none_with none (heard_on w (once places places lent)).outputs ≡ (called_of none o).none
   same_none none = ap (λ (l : List Float). none_with none (outputs_of (called w.receiver l places places))) (append-nil w.rest)
 
   -- the last one leaves nothing
@@ -99,7 +99,7 @@ block-again (suc n) (suc m) w none given even near fits =
     ∙ sym (told-on none w c (again m places places))
   where
     z : Called
-    z = called_of none (call_on w.receiver w.rest) true
+    z = called_of none (call_on w.receiver w.rest)
 
     rest : List Float
     rest = drop (2 * z.counts.consumed) w.rest

@@ -1,16 +1,16 @@
 -- The values that a receiver was set up with stay: a set-up gives them, and a reset and the phase setting keep them.
 -- The phase setting keeps all else too (R8). Assumes nothing.
+use Rattle.std.specs.Prelude.{Ok}
 use mathlib.Core.Path.{◌≡◌, refl, ap}
 use Prim.Native.Nat.{ℕ}
 use Rattle.constellations.specs.declared.kinds.CostasConstellation.{CostasConstellation}
-use Rattle.receiver.specs.declared.record.TimingValues.{TimingValues}
-use Rattle.receiver.specs.declared.record.CarrierValues.{CarrierValues}
-use Rattle.receiver.specs.declared.record.SetUp.TheVariants.{Ready}
+use Rattle.timing.specs.declared.params.TimingValues.{TimingValues}
+use Rattle.carrier.specs.declared.params.CarrierValues.{CarrierValues}
 use Rattle.receiver.specs.Record.{Receiver, opened, restarted, phase_set, SetUpWith}
 use Rattle.receiver.proofs.Laws.Setup.{opened-is}
 
 module _ {k : CostasConstellation} {t : TimingValues} {c : CarrierValues} where
-  pub opened_with : (r : Receiver) → opened k t c ≡ Ready r → SetUpWith k t c r
+  pub opened_with : (r : Receiver) → opened k t c ≡ Ok r → SetUpWith k t c r
   opened_with r e =
       let f = opened-is k t c r e in
       record { constellation = ap (λ (q : Receiver). q.carrier.constellation) f; timing = ap (λ (q : Receiver). q.timing.params) f; carrier = ap (λ (q : Receiver). q.carrier.params) f }

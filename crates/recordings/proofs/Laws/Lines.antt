@@ -1,9 +1,9 @@
 -- Digits in lines: the text of two parts, one after the other, is the text of the whole; and the loop that lays
 -- digits out. Assumes nothing.
-use Rattle.std.proofs.Common.{◌≡◌, ℕ, ◌+◌, ◌*◌, ◌%◌, ◌<◌, ◌≤◌, Bool, true, false, cond, eqb, List, [], ◌∷◌, ◌++◌, length, get_or, take, set, refl, ap, ◌∙◌, add-zero, add-one, arith, length-append, length-take-le, take_all, eq-eqb, ne_eqb}
+use Rattle.std.proofs.Common.{◌≡◌, ℕ, ◌+◌, ◌*◌, ◌%◌, ◌<◌, ◌≤◌, Bool, true, false, cond, eqb, List, [], ◌∷◌, ◌++◌, length, get_or, take, set, refl, ap, ◌∙◌, add-zero, add-one, arith, length-append, length-take-le, eq-eqb, ne_eqb}
 use lib.Seq.{sets}
 use Rattle.recordings.specs.Text.{lined}
-use Rattle.lists.proofs.Laws.Reading.{take_more}
+use Rattle.std.proofs.lemmas.List.{take_more}
 use Rattle.lists.proofs.Laws.Stores.{Stored, begins, goes_on}
 
 -- so the text does not show how the digits were cut
@@ -48,8 +48,8 @@ module _ {n : ℕ} {ds t₀ : List ℕ} where
         ∙ lined-append n (take i ds) (get_or ds i 0 ∷ [])
         ∙ ap (λ (l : List ℕ). lined n (take i ds) ++ l) (ap (λ (k : ℕ). lined (n + k) (get_or ds i 0 ∷ [])) (length-take-le i ds (omega arith)) ∙ e)
 
-    laid : (ws : List ℕ) {m : List ℕ} {next : ℕ} → m ≡ sets t count ws → lined (n + i) (get_or ds i 0 ∷ []) ≡ ws → length ws ≤ 2 → next ≡ (n + (i + 1)) % 64 → Laying n ds t₀ m next (count + length ws) (i + 1)
-    laid ws e f small g =
+    laid : (ws : List ℕ) {m : List ℕ} {next : ℕ} → m ≡ sets t count ws → lined (n + i) (get_or ds i 0 ∷ []) ≡ ws → length ws ≤ 2 → next ≡ (n + (i + 1)) % 64 → {to : ℕ} → to ≡ count + length ws → Laying n ds t₀ m next to (i + 1)
+    laid ws e f small g c =
         record {
           within = omega arith;
           few = let a = u.few in omega arith;
@@ -58,14 +58,8 @@ module _ {n : ℕ} {ds t₀ : List ℕ} where
           text = goes_on t₀ u.text u.count-is ws e (next-line f);
         }
 
-    pub laying-full : column ≡ 63 → {m : List ℕ} → m ≡ set t count (get_or ds i 0) → {o : List ℕ} → o ≡ set m (count + 1) 10 → Laying n ds t₀ o 0 (count + 2) (i + 1)
-    laying-full h e f = let c = u.column-is in laid (get_or ds i 0 ∷ 10 ∷ []) (f ∙ (λ j. set (e j) (add-one count j) 10)) (full (n + i) (get_or ds i 0) (omega arith)) (omega arith) (omega arith)
+    pub laying-full : column ≡ 63 → {m : List ℕ} → m ≡ set t count (get_or ds i 0) → {o : List ℕ} → o ≡ set m (count + 1) 10 → {next to : ℕ} → next ≡ 0 → to ≡ count + 2 → Laying n ds t₀ o next to (i + 1)
+    laying-full h e f g z = let c = u.column-is in laid (get_or ds i 0 ∷ 10 ∷ []) (f ∙ (λ j. set (e j) (add-one count j) 10)) (full (n + i) (get_or ds i 0) (omega arith)) (omega arith) (omega arith) (omega arith)
 
-    pub laying-inside : (column ≡ 63 → ⊥) → {m : List ℕ} → m ≡ set t count (get_or ds i 0) → Laying n ds t₀ m (column + 1) (count + 1) (i + 1)
-    laying-inside h e = let c = u.column-is in laid (get_or ds i 0 ∷ []) e (inside (n + i) (get_or ds i 0) (λ k. h (omega arith))) (omega arith) (omega arith)
-
-  -- all digits are laid out
-  pub laying-ends : {t : List ℕ} {column count i : ℕ} → Laying n ds t₀ t column count i → length ds ≤ i → (t ≡ sets t₀ 0 (lined n ds)) × (count ≡ length (lined n ds))
-  laying-ends {i = i} u h =
-      let e = take_all i ds h in
-      (u.text.is ∙ ap (λ (l : List ℕ). sets t₀ 0 (lined n l)) e, u.count-is ∙ ap (λ (l : List ℕ). length (lined n l)) e)
+    pub laying-inside : (column ≡ 63 → ⊥) → {m : List ℕ} → m ≡ set t count (get_or ds i 0) → {next to : ℕ} → next ≡ column + 1 → to ≡ count + 1 → Laying n ds t₀ m next to (i + 1)
+    laying-inside h e g z = let c = u.column-is in laid (get_or ds i 0 ∷ []) e (inside (n + i) (get_or ds i 0) (λ k. h (omega arith))) (omega arith) (omega arith) (omega arith)

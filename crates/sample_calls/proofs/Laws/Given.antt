@@ -11,7 +11,6 @@ use Rattle.values.proofs.Laws.Counter.{count-below}
 use Rattle.timing.specs.Sample.{complex}
 use Rattle.timing.specs.Run.{done_complex}
 use Rattle.timing.proofs.Laws.Run.{ran-given}
-use Rattle.complex_sync.specs.Views.{sync}
 use Rattle.carrier.proofs.Laws.Given as carrier
 use Rattle.receiver.specs.Record.{Receiver, Given}
 use Rattle.sample_calls.specs.Call.{Outcome, refused_call, done, odd_any, called}
@@ -19,9 +18,9 @@ use Rattle.sample_calls.specs.Call.{Outcome, refused_call, done, odd_any, called
 done-given : (r : Receiver) (xs zs ys : List Float) → Given r → Given (done r xs zs ys).receiver
 unfolding done
 done-given r xs zs ys g =
-    let t = done_complex (sync r.timing) xs zs in
+    let t = done_complex r.timing xs zs in
     record {
-      timing = ran-given complex (sync r.timing) (samples xs) (length zs / 2) g.timing;
+      timing = ran-given complex r.timing (samples xs) (length zs / 2) g.timing;
       carrier = carrier.done-given r.carrier (take (2 * t.produced) t.output) g.carrier;
       count-in = count-below r.count t.produced;
     }

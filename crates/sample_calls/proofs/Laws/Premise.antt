@@ -38,8 +38,8 @@ use Rattle.carrier.specs.Filter.{new_freq, advanced}
 use Rattle.carrier.specs.Step.{stepped}
 use Rattle.carrier.specs.Step as carrierStep
 use Rattle.carrier.specs.State.{params_of}
-use Rattle.receiver.specs.declared.record.TimingValues.{TimingValues}
-use Rattle.receiver.specs.declared.record.CarrierValues.{CarrierValues}
+use Rattle.timing.specs.declared.params.TimingValues.{TimingValues}
+use Rattle.carrier.specs.declared.params.CarrierValues.{CarrierValues}
 use Rattle.receiver.specs.Record.{Receiver, timing_params, carrier_params_of, fresh, opened, phase_set}
 use Rattle.sample_calls.specs.Call.{done, called}
 use Rattle.sample_calls.specs.Calls.{Fresh, just-set-up, Call, after, TurnedCall, turned_call, TurnedList}

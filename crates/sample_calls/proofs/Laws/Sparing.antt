@@ -17,7 +17,6 @@ use Rattle.values.specs.Buffers.{written}
 use Rattle.values.proofs.Laws.Buffers.{written-length}
 use Rattle.timing.specs.Run.{done_complex}
 use Rattle.timing.proofs.Laws.Run.{done_complex-sparing}
-use Rattle.complex_sync.specs.Views.{sync}
 use Rattle.carrier.specs.Run as carrier
 use Rattle.carrier.proofs.Laws.Count.{done-length}
 use Rattle.receiver.specs.Record.{Receiver}
@@ -31,7 +30,7 @@ refused-sparing n r xs zs ys h = record { produced = omega arith; consumed = ome
 done-sparing : (r : Receiver) (xs zs ys : List Float) → length zs ≡ length ys → Sparing xs zs ys (done r xs zs ys)
 unfolding done
 done-sparing r xs zs ys equal =
-    let s = sync r.timing in
+    let s = r.timing in
     let t = done_complex s xs zs in
     let p = done_complex-sparing s xs zs in
     let w = take (2 * t.produced) t.output in

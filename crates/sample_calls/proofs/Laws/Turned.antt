@@ -27,7 +27,6 @@ use Rattle.timing.proofs.Laws.TurnedRun.{TiedSync, tied-ran}
 use Rattle.timing.proofs.Laws.TurnedRun as timingRun
 use Rattle.timing.proofs.Laws.Turned.{written_back, same-clock}
 use Rattle.timing.proofs.Laws.Turned as timing
-use Rattle.complex_sync.specs.Views.{sync}
 use Rattle.cosine.specs.Table.{cos_list}
 use Rattle.constellations.specs.declared.kinds.CostasConstellation.{CostasConstellation}
 use Rattle.carrier.specs.declared.params.Params as carrierParams
@@ -37,8 +36,8 @@ use Rattle.detectors.specs.Turns.{Allowed}
 use Rattle.carrier.proofs.Laws.Count.{runs-count}
 use Rattle.carrier.proofs.Laws.Turned.{TiedState, same-carrier}
 use Rattle.carrier.proofs.Laws.Turned as carrier
-use Rattle.receiver.specs.declared.record.TimingValues.{TimingValues}
-use Rattle.receiver.specs.declared.record.CarrierValues.{CarrierValues}
+use Rattle.timing.specs.declared.params.TimingValues.{TimingValues}
+use Rattle.carrier.specs.declared.params.CarrierValues.{CarrierValues}
 use Rattle.receiver.specs.Record.{Receiver, timing_params, carrier_params_of, fresh, phase_set}
 use Rattle.sample_calls.specs.Call.{Outcome, refused_call, done, odd_any, called}
 use Rattle.sample_calls.specs.Calls.{Fresh, just-set-up, just-reset, Call, call_of, left_by, TurnedCall, turned_call, outputs_of, TurnedOutcome, SameReceiver, TurnedList}
@@ -53,7 +52,7 @@ fresh-is (just-reset r g w) = λ i. fresh (w.constellation i) (w.timing i) (w.ca
 -- one that allows these turns
 record Tied (k m : ℕ) (r s : Receiver) : Type 0 where
   allowed : Allowed r.carrier.constellation k m
-  timing : TiedSync k (sync r.timing) (sync s.timing)
+  timing : TiedSync k r.timing s.timing
   carrier : TiedState m r.carrier s.carrier
   count : s.count ≡ r.count
 
@@ -66,7 +65,7 @@ same-receiver h = record { count = h.count; clock = same-clock h.timing; carrier
 -- ---- a call that is not refused
 -- what timing makes of it, and the strobes that it gives to the carrier
 abbrev timed : Receiver → Call → run.Outcome C32
-timed r c = done_complex (sync r.timing) c.input c.strobes
+timed r c = done_complex r.timing c.input c.strobes
 
 abbrev handed_on : Receiver → Call → List Float
 handed_on r c = take (2 * (timed r c).produced) (timed r c).output
@@ -102,7 +101,7 @@ module _ (k m : ℕ) (small : m ≤ 3) where
         -- what is read back from the output is what the carrier gave
         back : (r : Receiver) (c : Call) → outputs_of (done_by r c) ≡ samples (carrierRun.done r.carrier (handed_on r c)).output
         back r c =
-            let t = (ran complex (sync r.timing) (samples c.input) (length c.strobes / 2)).values in
+            let t = (ran complex r.timing (samples c.input) (length c.strobes / 2)).values in
             let u = (symbols r.carrier (handed_on r c)).values in
             let e : length u ≡ length t = runs-count cos_list r.carrier.constellation r.carrier.params r.carrier.track (samples (handed_on r c)) ∙ ap length (samples-take (length t) (written (parts t) c.strobes) ∙ written_back t c.strobes) in
             ap (λ (n : ℕ). take n (samples (written (parts u) c.output))) (sym e) ∙ written_back u c.output ∙ sym (samples-parts u)

@@ -9,8 +9,8 @@ use Rattle.values.specs.declared.error.Refusal.TheVariants.{Uneven, Odd}
 use Rattle.values.specs.Calls.{after_by}
 use Rattle.timing.specs.Run.{ran}
 use Rattle.constellations.specs.declared.kinds.CostasConstellation.{CostasConstellation}
-use Rattle.receiver.specs.declared.record.TimingValues.{TimingValues}
-use Rattle.receiver.specs.declared.record.CarrierValues.{CarrierValues}
+use Rattle.timing.specs.declared.params.TimingValues.{TimingValues}
+use Rattle.carrier.specs.declared.params.CarrierValues.{CarrierValues}
 use Rattle.receiver.specs.Record.{Receiver, SetUpWith}
 use Rattle.sample_calls.specs.Call.{Outcome, refused_call, done, odd_any, called}
 use Rattle.sample_calls.specs.Calls.{Call, call_of, after}

@@ -1,5 +1,6 @@
 -- R16: a symbol reads none exactly if both parts are zero or a part is NaN, else the number of R11 to R13, below the
 -- count of points; samples alike read the same. Assumes nothing.
+use Rattle.std.specs.Prelude.{Some, None}
 use mathlib.Core.Path.{◌≡◌, refl, sym, ap, ◌∙◌, subst}
 use mathlib.Core.Bool.{Bool, true, false, ◌&&◌, ◌||◌, cond}
 use Prim.Native.Nat.{ℕ, ◌/◌, ◌<◌}
@@ -20,9 +21,7 @@ use Rattle.constellations.specs.declared.kinds.CostasConstellation.{CostasConste
 use Rattle.constellations.specs.declared.kinds.CostasConstellation.TheVariants.{Bpsk, Qpsk, Psk8}
 use Rattle.constellations.proofs.Laws.Class.{Class, low, nil, high, none, class, is_nil, on-zero, nil-alike}
 use Rattle.constellations.proofs.Laws.Octant.{octant-alike, octant-below}
-use Rattle.symbol_numbers.specs.declared.symbol.SymbolNumber.{SymbolNumber}
-use Rattle.symbol_numbers.specs.declared.symbol.SymbolNumber.TheVariants.{Number, None}
-use Rattle.symbol_numbers.specs.Symbol.{bpsk_of, sector_of, silent, any_nan, no_symbol, symbol_of, point_count, NoSymbol, is-silent, real-nan, imag-nan}
+use Rattle.symbol_numbers.specs.Symbol.{SymbolNumber, bpsk_of, sector_of, silent, any_nan, no_symbol, symbol_of, point_count, NoSymbol, is-silent, real-nan, imag-nan}
 
 -- ---- samples alike read the same
 sector-alike : (c : CostasConstellation) {v z : C32} → AlikeSample v z → sector_of c v ≡ sector_of c z
@@ -36,7 +35,7 @@ none_alike p = let z = like-refl zero₀ in cc (like-eq p.real z, like-eq p.imag
 
 pub symbol-alike : (c : CostasConstellation) {v z : C32} → AlikeSample v z → symbol_of c v ≡ symbol_of c z
 unfolding symbol_of
-symbol-alike c p = λ j. cond (none_alike p j) None (Number (sector-alike c p j))
+symbol-alike c p = λ j. cond (none_alike p j) None (Some (sector-alike c p j))
 
 -- ---- the test says what `NoSymbol` says
 zero-alike : (x : Float) → eq x zero₀ ≡ true → Alike x zero₀
@@ -86,24 +85,24 @@ reads y = go (silent y) (is_nan y.re) (is_nan y.im) refl refl refl
 -- ---- R16: none exactly if
 abbrev is_none : SymbolNumber → Bool
 is_none None = true
-is_none (Number n) = false
+is_none (Some n) = false
 
 pub none-exactly : (c : CostasConstellation) (y : C32) → (symbol_of c y ≡ None → NoSymbol y) × (NoSymbol y → symbol_of c y ≡ None)
 unfolding symbol_of
-none-exactly c y = (only (reads y), (λ h. ap (λ (b : Bool). cond b None (Number (sector_of c y))) (tested h)))
+none-exactly c y = (only (reads y), (λ h. ap (λ (b : Bool). cond b None (Some (sector_of c y))) (tested h)))
   where
-    only : Reads y → cond (no_symbol y) None (Number (sector_of c y)) ≡ None → NoSymbol y
+    only : Reads y → cond (no_symbol y) None (Some (sector_of c y)) ≡ None → NoSymbol y
     only (nothing h t) e = h
-    only (something h t) e = absurd (yes (ap is_none (sym (ap (λ (b : Bool). cond b None (Number (sector_of c y))) t) ∙ e)))
+    only (something h t) e = absurd (yes (ap is_none (sym (ap (λ (b : Bool). cond b None (Some (sector_of c y))) t) ∙ e)))
 
 -- R16: else the number
-pub number-otherwise : (c : CostasConstellation) (y : C32) → (NoSymbol y → ⊥) → symbol_of c y ≡ Number (sector_of c y)
+pub number-otherwise : (c : CostasConstellation) (y : C32) → (NoSymbol y → ⊥) → symbol_of c y ≡ Some (sector_of c y)
 unfolding symbol_of
 number-otherwise c y some = by (reads y)
   where
-    by : Reads y → cond (no_symbol y) None (Number (sector_of c y)) ≡ Number (sector_of c y)
+    by : Reads y → cond (no_symbol y) None (Some (sector_of c y)) ≡ Some (sector_of c y)
     by (nothing h t) = absurd (some h)
-    by (something h t) = ap (λ (b : Bool). cond b None (Number (sector_of c y))) t
+    by (something h t) = ap (λ (b : Bool). cond b None (Some (sector_of c y))) t
 
 -- R11 to R13: below 2, 4 or 8
 pub sector-below : (c : CostasConstellation) (y : C32) → sector_of c y < point_count c
@@ -116,20 +115,20 @@ sector-below Bpsk y = go (lt y.re zero₀ || (eq y.re zero₀ && lt y.im zero₀
 sector-below Qpsk y = let h = octant-below y in omega arith
 sector-below Psk8 y = octant-below y
 
-pub number-below : (c : CostasConstellation) (y : C32) {n : ℕ} → symbol_of c y ≡ Number n → n < point_count c
+pub number-below : (c : CostasConstellation) (y : C32) {n : ℕ} → symbol_of c y ≡ Some n → n < point_count c
 unfolding symbol_of
 number-below c y {n} e = by (no_symbol y) e
   where
     number : SymbolNumber → ℕ
     number None = 0
-    number (Number n) = n
+    number (Some n) = n
 
-    by : (b : Bool) → cond b None (Number (sector_of c y)) ≡ Number n → n < point_count c
+    by : (b : Bool) → cond b None (Some (sector_of c y)) ≡ Some n → n < point_count c
     by true e = absurd (yes (sym (ap is_none e)))
     by false e = subst (λ (k : ℕ). k < point_count c) (ap number e) (sector-below c y)
 
 -- so it has one digit
-pub number-below-eight : (c : CostasConstellation) (y : C32) {n : ℕ} → symbol_of c y ≡ Number n → n < 8
+pub number-below-eight : (c : CostasConstellation) (y : C32) {n : ℕ} → symbol_of c y ≡ Some n → n < 8
 number-below-eight Bpsk y e = omega (arith, number-below Bpsk y e)
 number-below-eight Qpsk y e = omega (arith, number-below Qpsk y e)
 number-below-eight Psk8 y e = number-below Psk8 y e

@@ -1,5 +1,6 @@
 -- Q12: a sample that is turned reads none if it did before; else its number grows by what the turns add. For all
 -- samples. Assumes nothing.
+use Rattle.std.specs.Prelude.{Some}
 use mathlib.Core.Path.{◌≡◌, refl, sym, ap, ◌∙◌, subst}
 use mathlib.Core.Bool.{true, false, ◌&&◌, ◌||◌, cond}
 use Prim.Native.Nat.{ℕ, zero, suc, ◌+◌, ◌*◌, ◌/◌, ◌%◌}
@@ -17,7 +18,6 @@ use Rattle.constellations.specs.Octant.{octant_of}
 use Rattle.constellations.proofs.Laws.Class.{Class, low, nil, high, none, class, flip, is_high, is_nil, class-neg, class-alike, below-zero, on-zero, nil-alike, none-nan}
 use Rattle.constellations.proofs.Laws.Octant.{octant-below}
 use Rattle.constellations.proofs.Laws.OctantTurn as octants
-use Rattle.symbol_numbers.specs.declared.symbol.SymbolNumber.TheVariants.{Number}
 use Rattle.symbol_numbers.specs.Symbol.{bpsk_of, sector_of, symbol_of, point_count, NoSymbol, is-silent, real-nan, imag-nan}
 use Rattle.symbol_numbers.specs.Turned.{numbers_on, Onto, turned_number}
 use Rattle.symbol_numbers.proofs.Laws.Symbol.{Reads, nothing, something, reads, none-exactly, number-otherwise, sector-below}
@@ -118,5 +118,5 @@ symbol-turned c j on y = by (reads y)
     by (nothing h t) = (none-exactly c (turns j y)).1 (none-turns j h) ∙ ap (turned_number c j) (sym ((none-exactly c y).1 h))
     by (something h t) =
         number-otherwise c (turns j y) (λ n. h (none_before j n))
-        ∙ ap Number (sector-turns c j on y h)
+        ∙ ap Some (sector-turns c j on y h)
         ∙ ap (turned_number c j) (sym (number-otherwise c y h))

@@ -1,5 +1,6 @@
 -- What the code reads and answers, field by field; and that a command without symbols leaves the output alone, however
 -- long it is. Assumes nothing.
+use Rattle.std.specs.Prelude.{Ok, Err}
 use mathlib.Core.Path.{◌≡◌, refl, sym, ap, ◌∙◌}
 use mathlib.Core.Bool.{Bool, true, false, cond}
 use mathlib.Core.List.{List, []}
@@ -12,10 +13,8 @@ use lib.Seq.{sets, take-nil}
 use lib.Ieee.{Float}
 use Rattle.values.specs.declared.error.Refusal.TheVariants.{Early}
 use Rattle.little_endian.specs.Samples.{whole_samples, bytes, stored_bytes}
-use Rattle.carrier.specs.declared.state.SetUp as carrierAnswer
-use Rattle.carrier.specs.declared.state.SetUp.TheVariants as carrierSetUp
-use Rattle.complex_sync.specs.declared.state.SetUp as timingAnswer
-use Rattle.complex_sync.specs.declared.state.SetUp.TheVariants as timingSetUp
+use Rattle.carrier.specs.State.{SetUp as CarrierSetUp}
+use Rattle.complex_sync.specs.Views.{SetUp as TimingSetUp}
 use Rattle.receiver.specs.Record.{Receiver}
 use Rattle.receiver.specs.Loops.{timing_opened, carrier_opened}
 use Rattle.plain.specs.Codes.{detector_of, detector_named, constellation_of, constellation_named}
@@ -119,17 +118,17 @@ module _ (d : Desk) where
   unfolding carrier_read
   carrier-silent l = let code = byte_at l 1 in let v = carrier_values l in selected-silent (constellation_named code) 26 l (carrier (constellation_of code) v) (by (carrier_opened (constellation_of code) v))
     where
-      by : (a : carrierAnswer.SetUp) → symbols_of (carrier_answered d a) ≡ []
-      by (carrierSetUp.Ready c) = refl
-      by (carrierSetUp.Refused n) = refl
+      by : (a : CarrierSetUp) → symbols_of (carrier_answered d a) ≡ []
+      by (Ok c) = refl
+      by (Err n) = refl
 
   pub timing-silent : (l : List ℕ) → symbols_of (acted d (timing_read l)) ≡ []
   unfolding timing_read
   timing-silent l = let v = timing_values (detector_of (byte_at l 1)) l in selected-silent (detector_named (byte_at l 1)) 42 l (timing v) (by (timing_opened v))
     where
-      by : (a : timingAnswer.SetUp) → symbols_of (timing_answered d a) ≡ []
-      by (timingSetUp.Ready s) = refl
-      by (timingSetUp.Refused n) = refl
+      by : (a : TimingSetUp) → symbols_of (timing_answered d a) ≡ []
+      by (Ok s) = refl
+      by (Err n) = refl
 
 pub reset-silent : (d : Desk) → symbols_of (acted d reset) ≡ []
 reset-silent Empty = refl

@@ -1,13 +1,12 @@
 -- How many bytes are wanted: at least one, and with those read no more than the longest command has. Assumes nothing.
+use Rattle.std.specs.Prelude.{Ok, Err}
 use mathlib.Core.Path.{◌≡◌}
 use mathlib.Core.List.{List}
 use Prim.Native.Nat.{ℕ, ◌+◌, ◌≤◌, ◌<◌}
 use native.Mathlib.Omega.{arith}
 use lib.ListN.{length}
-use Rattle.complex_sync.specs.declared.state.SetUp as timingAnswer
-use Rattle.complex_sync.specs.declared.state.SetUp.TheVariants as timingSetUp
-use Rattle.carrier.specs.declared.state.SetUp as carrierAnswer
-use Rattle.carrier.specs.declared.state.SetUp.TheVariants as carrierSetUp
+use Rattle.complex_sync.specs.Views.{SetUp as TimingSetUp}
+use Rattle.carrier.specs.State.{SetUp as CarrierSetUp}
 use Rattle.receiver.specs.Record.{Receiver}
 use Rattle.receiver.specs.Loops.{timing_opened, carrier_opened}
 use Rattle.plain.specs.Codes.{detector_of, constellation_of}
@@ -26,13 +25,13 @@ module _ {G : Type 0} {k : ℕ} where
   pub refused-wants : {r : _} {n : ℕ} → refused r n ≡ wants k → G
   refused-wants e = let z : ◌≡◌ {A = ℕ} 0 1 = cc in absurd (omega arith)
 
-  pub carrier-wants : (d : Desk) (a : carrierAnswer.SetUp) → carrier_answered d a ≡ wants k → G
-  carrier-wants d (carrierSetUp.Ready c) e = done-wants e
-  carrier-wants d (carrierSetUp.Refused n) e = refused-wants e
+  pub carrier-wants : (d : Desk) (a : CarrierSetUp) → carrier_answered d a ≡ wants k → G
+  carrier-wants d (Ok c) e = done-wants e
+  carrier-wants d (Err n) e = refused-wants e
 
-  pub timing-wants : (d : Desk) (a : timingAnswer.SetUp) → timing_answered d a ≡ wants k → G
-  timing-wants d (timingSetUp.Ready s) e = done-wants e
-  timing-wants d (timingSetUp.Refused n) e = refused-wants e
+  pub timing-wants : (d : Desk) (a : TimingSetUp) → timing_answered d a ≡ wants k → G
+  timing-wants d (Ok s) e = done-wants e
+  timing-wants d (Err n) e = refused-wants e
 
   -- what needs both loops wants what it wants with them
   pub both-wants : (d : Desk) (n : ℕ) (f : Receiver → Stepped) → ((r : Receiver) → f r ≡ wants k → G) → with_both d n f ≡ wants k → G

@@ -5,13 +5,6 @@ use Rattle.tape_replay.specs.declared.frame.Ending.{Ending}
 use Rattle.tape_replay.specs.declared.frame.Frame.{Frame}
 use Rattle.tape_replay.specs.Compare.{recorded, agreed}
 
--- the frame's output as the code takes it
-pub recorded-is : (f : Frame) (l : List ℕ) → let from = f.tape + 16 in take (from + f.ending.output - from) (drop from l) ≡ recorded f l
-recorded-is f l =
-    let from = f.tape + 16 in
-    let e : from + f.ending.output - from ≡ f.ending.output = omega arith in
-    ap (λ (n : ℕ). take n (drop from l)) e
-
 module _ (f : Frame) (l : List ℕ) (e : Ending) (ys : List ℕ) where
   abbrev placed : Bool
   placed = eqb e.place f.ending.place

@@ -3,13 +3,14 @@
 use Rattle.std.proofs.Common.{◌≡◌, ℕ, ◌-◌, ◌≤◌, min, Bool, cond, List, length, sym, ap, ◌∙◌, subst, arith}
 use lib.Ieee.{Float}
 use Rattle.timing.specs.Sample.{Ops}
+use Rattle.timing.specs.Form.{Form}
 use Rattle.timing.specs.Clock.{mid_index}
 use Rattle.timing.specs.Given.{Running, GivenClock}
 use Rattle.timing.specs.Loop.{Track, lacks, runs, pending, consumed, track_back}
 use Rattle.timing.specs.Run.{Hist, Sync, Given, line, hist_at, ran, done, TrackRunning}
 use Rattle.timing.proofs.Laws.Clock.{running-pending, running_more}
 use Rattle.timing.proofs.Laws.Loop.{runs-running}
-use Rattle.timing.proofs.Laws.Shown.{Form, Ended}
+use Rattle.timing.proofs.Laws.Shown.{Ended}
 
 -- u is the track that the loop left, and `lacking` whether its middle is lacking
 module _ {A : Type 0} (o : Ops A) (s : Sync A) (xs : List A) (places n : ℕ) (count : length xs ≡ n) {u : Track A} {lacking : Bool} (lacks-it : lacking ≡ lacks s.params u) where

@@ -9,12 +9,14 @@ use Rattle.values.specs.Samples.{samples}
 use Rattle.values.specs.Buffers.{odd_either}
 use Rattle.values.proofs.Laws.Samples.{length-samples}
 use Rattle.timing.specs.Sample.{Ops, real, complex}
+use Rattle.timing.specs.Form.{Form}
+use Rattle.timing.specs.FormLaws.{FormLaws, onefold_laws, twofold_laws}
 use Rattle.timing.specs.Loop.{lacks, runs, consumed, pending, track_back}
 use Rattle.timing.specs.Run.{Sync, Given, line, ran, Outcome, done, called_real, refused_call, done_complex, called_complex}
 use Rattle.timing.specs.Sparing.{Sparing}
 use Rattle.timing.proofs.Laws.Clock.{running-back, running_more}
 use Rattle.timing.proofs.Laws.Loop.{runs-count, runs-running, runs-stuck}
-use Rattle.timing.proofs.Laws.Shown.{Form, onefold, twofold, length-slice}
+use Rattle.timing.proofs.Laws.Shown.{length-slice}
 
 -- ---- a run
 module _ {A : Type 0} (o : Ops A) (s : Sync A) (xs : List A) (places : ℕ) where
@@ -41,11 +43,11 @@ module _ {A : Type 0} (o : Ops A) (s : Sync A) (xs : List A) (places : ℕ) wher
   ran-all h = let k = runs-stuck o s.params (line s.hist xs) (length xs) long places s.track h in omega arith
 
 -- ---- A10: what a call leaves
-done-sparing : {A : Type 0} (o : Ops A) (m : Form A) (s : Sync A) (xs : List A) (places : ℕ) (ys : List Float) → m.width * places ≤ length ys → Sparing m.width (length xs) places ys (done m.slice (ran o s xs places) ys)
-done-sparing o m s xs places ys room =
+done-sparing : {A : Type 0} (o : Ops A) {m : Form A} (keeps : FormLaws m) (s : Sync A) (xs : List A) (places : ℕ) (ys : List Float) → m.width * places ≤ length ys → Sparing m.width (length xs) places ys (done m.slice (ran o s xs places) ys)
+done-sparing o {m} keeps s xs places ys room =
     let vs = (ran o s xs places).values in
     let v = m.slice vs in
-    let w = length-slice m vs in
+    let w = length-slice keeps vs in
     let k = mul-le-mul_left m.width (ran-produced o s xs places) in
     record {
       produced = ran-produced o s xs places;
@@ -63,7 +65,7 @@ module _ (s : Sync Float) (xs ys : List Float) where
 
   pub called_real-sparing : Sparing 1 (length xs) (length ys) ys (called_real s xs ys)
   unfolding called_real
-  called_real-sparing = done-sparing real onefold s xs (length ys) ys (omega arith)
+  called_real-sparing = done-sparing real onefold_laws s xs (length ys) ys (omega arith)
 
 -- ---- a call on complex samples
 module _ (s : Sync C32) (xs ys : List Float) where
@@ -85,7 +87,7 @@ module _ (s : Sync C32) (xs ys : List Float) where
       go false = ran-given complex s (samples xs) (length ys / 2) g
 
   pub done_complex-sparing : Sparing 2 (length xs / 2) (length ys / 2) ys (done_complex s xs ys)
-  done_complex-sparing = subst (λ (n : ℕ). Sparing 2 n (length ys / 2) ys (done_complex s xs ys)) (length-samples xs) (done-sparing complex twofold s (samples xs) (length ys / 2) ys (omega arith))
+  done_complex-sparing = subst (λ (n : ℕ). Sparing 2 n (length ys / 2) ys (done_complex s xs ys)) (length-samples xs) (done-sparing complex twofold_laws s (samples xs) (length ys / 2) ys (omega arith))
 
   pub called_complex-sparing : Sparing 2 (length xs / 2) (length ys / 2) ys (called_complex s xs ys)
   unfolding called_complex

@@ -1,5 +1,6 @@
 -- Which set-up is refused, exactly; and what an accepted one says of its parameters: where sps and the deviation lie,
 -- that the gains are finite, and what the limit is. Assumes nothing.
+use Rattle.std.specs.Prelude.{Ok, Err}
 use Rattle.std.proofs.Common.{◌≡◌, ℕ, true, false, ◌&&◌, T, List, pos, negsuc, sym, refl, ap, ◌∙◌, subst}
 use lib.Ieee.{Float, fin, binary64, round, mul, le}
 use lib.Ieee.Fits.{and_l, and_r}
@@ -12,10 +13,8 @@ use Rattle.checks.proofs.Laws.Exactly.{exactly, accepted-is}
 use Rattle.checks.proofs.Laws.Ranges.{ranged}
 use Rattle.timing.specs.declared.params.Ted.{Ted}
 use Rattle.timing.specs.declared.params.Params.{Params}
-use Rattle.timing.specs.declared.setup.Tuning.{Tuning}
-use Rattle.timing.specs.declared.setup.Tuning.TheVariants.{Accepted, Refused}
+use Rattle.timing.specs.Setup.{Tuning, rows, params_with, tuned, tuning_number}
 use Rattle.timing.specs.Gains.{kp_of, ki_of}
-use Rattle.timing.specs.Setup.{rows, params_with, tuned, tuning_number}
 use Rattle.timing.specs.Sample.{Ops}
 use Rattle.timing.specs.Given.{Tuned}
 use Rattle.timing.specs.Run.{opened_by, opening_number}
@@ -23,7 +22,7 @@ use Rattle.timing.specs.Run.{opened_by, opening_number}
 -- ---- T4: which set-up is refused, by its number
 pub refused-exactly : (sps : Float) (ted : Ted) (bw damping dev gain : Float) → Exactly (tuning_number (tuned sps ted bw damping dev gain)) (rows sps bw damping dev gain)
 unfolding tuned
-refused-exactly sps ted bw damping dev gain = exactly tuning_number Refused (λ n. refl) _ refl (rows sps bw damping dev gain)
+refused-exactly sps ted bw damping dev gain = exactly tuning_number Err (λ n. refl) _ refl (rows sps bw damping dev gain)
 
 -- so it is of the set-up of a loop over any samples
 pub opened-exactly : {A : Type 0} (o : Ops A) (sps : Float) (ted : Ted) (bw damping dev gain : Float) → Exactly (opening_number (opened_by o (tuned sps ted bw damping dev gain))) (rows sps bw damping dev gain)
@@ -32,15 +31,15 @@ opened-exactly o sps ted bw damping dev gain =
     subst (λ (n : ℕ). Exactly n (rows sps bw damping dev gain)) (same_number t) (refused-exactly sps ted bw damping dev gain)
   where
     same_number : (t : Tuning) → tuning_number t ≡ opening_number (opened_by o t)
-    same_number (Accepted p) = refl
-    same_number (Refused n) = refl
+    same_number (Ok p) = refl
+    same_number (Err n) = refl
 
 -- ---- which is accepted
 pub all-passed : (sps : Float) (ted : Ted) (bw damping dev gain : Float) → in_range (decimal binary64 2 1) sps (decimal binary64 1000000 1) ≡ true → in_range (decimal binary64 1 10000) bw (decimal binary64 1 10) ≡ true → in_range (decimal binary64 1 10) damping (decimal binary64 4 1) ≡ true
     → in_range zero₀ dev (decimal binary64 5 100) ≡ true → positive gain ≡ true → (finite (kp_of sps bw damping gain) && finite (ki_of sps bw damping gain)) ≡ true
-    → tuned sps ted bw damping dev gain ≡ Accepted (params_with sps ted bw damping dev gain (kp_of sps bw damping gain) (ki_of sps bw damping gain))
+    → tuned sps ted bw damping dev gain ≡ Ok (params_with sps ted bw damping dev gain (kp_of sps bw damping gain) (ki_of sps bw damping gain))
 unfolding tuned
-all-passed sps ted bw damping dev gain a b c d e f = first-passed Refused _ _ _ a ∙ first-passed Refused _ _ _ b ∙ first-passed Refused _ _ _ c ∙ first-passed Refused _ _ _ d ∙ first-passed Refused _ _ _ e ∙ first-passed Refused _ _ _ f ∙ first-none Refused _
+all-passed sps ted bw damping dev gain a b c d e f = first-passed Err _ _ _ a ∙ first-passed Err _ _ _ b ∙ first-passed Err _ _ _ c ∙ first-passed Err _ _ _ d ∙ first-passed Err _ _ _ e ∙ first-passed Err _ _ _ f ∙ first-none Err _
 
 -- ---- what that says of the parameters
 abbrev pub million₀ : Float
@@ -68,11 +67,11 @@ worked p = params_with p.sps p.ted p.loop_bw p.damping p.max_deviation p.ted_gai
 abbrev rows_of : Params → List Row
 rows_of p = rows p.sps p.loop_bw p.damping p.max_deviation p.ted_gain
 
-accepted-rows : (p : Params) → Tuned p → Passed (rows_of p) × (Accepted (worked p) ≡ Accepted p)
+accepted-rows : (p : Params) → Tuned p → Passed (rows_of p) × (◌≡◌ {A = Tuning} (Ok (worked p)) (Ok p))
 unfolding tuned
-accepted-rows p t = accepted-is tuning_number Refused (λ n. refl) (Accepted (worked p)) refl (rows_of p) (Accepted p) refl t.accepted
+accepted-rows p t = accepted-is tuning_number Err (λ n. refl) (Ok (worked p)) refl (rows_of p) (Ok p) refl t.accepted
 
-inner : (p q : Params) → Accepted p ≡ Accepted q → p ≡ q
+inner : (p q : Params) → ◌≡◌ {A = Tuning} (Ok p) (Ok q) → p ≡ q
 inner p q e = cc
 
 pub limits : (p : Params) → Tuned p → Limits p

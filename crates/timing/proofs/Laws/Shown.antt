@@ -1,53 +1,33 @@
 -- What a run shows over a buffer, for any sample type: the invariant of the loops that store its values one by one,
 -- its turns, and what it says at the end. Assumes nothing.
-use Rattle.std.proofs.Common.{◌≡◌, ℕ, suc, ◌+◌, ◌-◌, ◌*◌, ◌^◌, ◌<◌, ◌≤◌, Bool, true, false, not, ◌&&◌, leb, List, [], ◌∷◌, ◌++◌, length, set, sym, refl, ap, ◌∙◌, subst, append_assoc, mul-le-mul_left, zero-add, mul-suc, arith, length-append}
+use Rattle.std.proofs.Common.{◌≡◌, ℕ, suc, ◌+◌, ◌-◌, ◌*◌, ◌^◌, ◌<◌, ◌≤◌, Bool, true, false, not, ◌&&◌, leb, List, [], ◌∷◌, ◌++◌, length, sym, refl, ap, ◌∙◌, subst, append_assoc, mul-le-mul_left, zero-add, mul-suc, arith, length-append}
 use mathlib.Core.Bool.{not-not}
 use native.Mathlib.Nat.{sub-zero}
 use lib.Seq.{sets, sets-eq, length-sets}
 use lib.Ieee.{Float}
 use Rattle.lists.proofs.Laws.Stores.{sets-append}
-use Rattle.values.specs.declared.sample.C32.{C32}
-use Rattle.values.specs.Samples.{parts}
 use Rattle.values.specs.Buffers.{written}
-use Rattle.values.proofs.Laws.Samples.{parts_none, parts-some}
 use Rattle.timing.specs.declared.params.Params.{Params}
 use Rattle.timing.specs.Sample.{Ops}
+use Rattle.timing.specs.Form.{Form}
+use Rattle.timing.specs.FormLaws.{FormLaws}
 use Rattle.timing.specs.Given.{GivenStrobe}
 use Rattle.timing.specs.Loop.{Track, Strobes, lacks, mid_taken, strobed, ready, stopped, more, runs}
 use Rattle.timing.specs.Run.{TrackRunning}
 use Rattle.timing.proofs.Laws.Loop.{value_here, runs-turn, runs-stop, runs-full, runs-count, ready-leb, ready-window, ready-strobe, mid_taken-running, strobed-running}
 
--- how samples lie in a slice of f32: the floats of one, and the slice of many
-pub record Form (A : Type 0) : Type 0 where
-  pub floats : A → List Float
-  pub slice : List A → List Float
-  pub width : ℕ
-  pub wide : (y : A) → length (floats y) ≡ width
-  pub none : slice [] ≡ []
-  pub some : (y : A) (l : List A) → slice (y ∷ l) ≡ floats y ++ slice l
+module _ {A : Type 0} {m : Form A} (keeps : FormLaws m) where
+  pub length-slice : (vs : List A) → length (m.slice vs) ≡ m.width * length vs
+  length-slice [] = ap length keeps.none ∙ omega arith
+  length-slice (y ∷ l) = ap length (keeps.some y l) ∙ length-append (m.floats y) (m.slice l) ∙ (let a = keeps.wide y in let b = length-slice l in let c = mul-suc m.width (length l) in omega arith)
 
--- one float a sample
-abbrev pub onefold : Form Float
-onefold = record { floats = λ y. y ∷ []; slice = λ vs. vs; width = 1; wide = λ y. refl; none = refl; some = λ y l. refl }
-
-pub one-stored : (ys : List Float) (k : ℕ) (y : Float) → set ys k y ≡ sets ys (onefold.width * k) (onefold.floats y)
-one-stored ys k y = ap (λ (i : ℕ). set ys i y) (omega arith)
-
--- two floats a sample
-abbrev pub twofold : Form C32
-twofold = record { floats = λ y. y.re ∷ y.im ∷ []; slice = parts; width = 2; wide = λ y. refl; none = parts_none; some = parts-some }
-
-pub length-slice : {A : Type 0} (m : Form A) (vs : List A) → length (m.slice vs) ≡ m.width * length vs
-length-slice m [] = ap length m.none ∙ omega arith
-length-slice m (y ∷ l) = ap length (m.some y l) ∙ length-append (m.floats y) (m.slice l) ∙ (let a = m.wide y in let b = length-slice m l in let c = mul-suc m.width (length l) in omega arith)
-
-pub slice-append : {A : Type 0} (m : Form A) (vs ws : List A) → m.slice (vs ++ ws) ≡ m.slice vs ++ m.slice ws
-slice-append m [] ws = ap (λ (l : List Float). l ++ m.slice ws) (sym m.none)
-slice-append m (v ∷ vs) ws =
-    m.some v (vs ++ ws)
-    ∙ ap (λ (l : List Float). m.floats v ++ l) (slice-append m vs ws)
-    ∙ sym (append_assoc (m.floats v) (m.slice vs) (m.slice ws))
-    ∙ ap (λ (l : List Float). l ++ m.slice ws) (sym (m.some v vs))
+  pub slice-append : (vs ws : List A) → m.slice (vs ++ ws) ≡ m.slice vs ++ m.slice ws
+  slice-append [] ws = ap (λ (l : List Float). l ++ m.slice ws) (sym keeps.none)
+  slice-append (v ∷ vs) ws =
+      keeps.some v (vs ++ ws)
+      ∙ ap (λ (l : List Float). m.floats v ++ l) (slice-append vs ws)
+      ∙ sym (append_assoc (m.floats v) (m.slice vs) (m.slice ws))
+      ∙ ap (λ (l : List Float). l ++ m.slice ws) (sym (keeps.some v vs))
 
 -- ---- what a run shows from place k on, over a buffer ys
 pub record Shown (A : Type 0) : Type 0 where
@@ -59,11 +39,11 @@ abbrev pub shown : {A : Type 0} → Form A → ℕ → List Float → Strobes A 
 shown m k ys r = record { last = r.last; produced = k + length r.values; output = sets ys (m.width * k) (m.slice r.values) }
 
 -- a value first is that value stored
-shown-more : {A : Type 0} (m : Form A) (k : ℕ) (ys : List Float) (y : A) (r : Strobes A) → shown m k ys (more y r) ≡ shown m (k + 1) (sets ys (m.width * k) (m.floats y)) r
-shown-more m k ys y r =
+shown-more : {A : Type 0} {m : Form A} (keeps : FormLaws m) (k : ℕ) (ys : List Float) (y : A) (r : Strobes A) → shown m k ys (more y r) ≡ shown m (k + 1) (sets ys (m.width * k) (m.floats y)) r
+shown-more {m = m} keeps k ys y r =
     let e : k + suc (length r.values) ≡ k + 1 + length r.values = omega arith in
-    let h : m.width * k + length (m.floats y) ≡ m.width * (k + 1) = (let a = m.wide y in let b = mul-suc m.width k in omega arith) in
-    let g = ap (sets ys (m.width * k)) (m.some y r.values) ∙ sets-append ys (m.width * k) (m.floats y) (m.slice r.values) ∙ ap (λ (i : ℕ). sets (sets ys (m.width * k) (m.floats y)) i (m.slice r.values)) h in
+    let h : m.width * k + length (m.floats y) ≡ m.width * (k + 1) = (let a = keeps.wide y in let b = mul-suc m.width k in omega arith) in
+    let g = ap (sets ys (m.width * k)) (keeps.some y r.values) ∙ sets-append ys (m.width * k) (m.floats y) (m.slice r.values) ∙ ap (λ (i : ℕ). sets (sets ys (m.width * k) (m.floats y)) i (m.slice r.values)) h in
     λ j. record { last = r.last; produced = e j; output = g j }
 
 -- ---- the invariant: k of q places are done, with the track s and the buffer ys; what the definition shows from here
@@ -85,20 +65,20 @@ abbrev pub Ended : {A : Type 0} → Form A → Strobes A → List Float → Trac
 Ended m r ys₀ t k ys = (t ≡ r.last) × ((k ≡ length r.values) × (ys ≡ written (m.slice r.values) ys₀))
 
 -- nothing is left to show
-ends : {A : Type 0} (m : Form A) (r : Strobes A) (ys₀ : List Float) (t : Track A) (k : ℕ) (ys : List Float) → m.width * length r.values ≤ length ys₀ → shown m k ys (stopped t) ≡ shown m 0 ys₀ r → Ended m r ys₀ t k ys
-ends {A} m r ys₀ t k ys room e =
+ends : {A : Type 0} {m : Form A} (keeps : FormLaws m) (r : Strobes A) (ys₀ : List Float) (t : Track A) (k : ℕ) (ys : List Float) → m.width * length r.values ≤ length ys₀ → shown m k ys (stopped t) ≡ shown m 0 ys₀ r → Ended m r ys₀ t k ys
+ends {A} {m} keeps r ys₀ t k ys room e =
     let v = m.slice r.values in
-    let z : 0 + length v ≤ length ys₀ = (let a = length-slice m r.values in omega arith) in
+    let z : 0 + length v ≤ length ys₀ = (let a = length-slice keeps r.values in omega arith) in
     let w : m.width * 0 ≡ 0 = omega arith in
     let n = ap (λ (x : Shown A). x.produced) e in (
       ap (λ (x : Shown A). x.last) e,
       (
         omega arith,
-        sym (ap (sets ys (m.width * k)) m.none) ∙ ap (λ (x : Shown A). x.output) e ∙ ap (λ (i : ℕ). sets ys₀ i v) w ∙ (rw zero-add at (sets-eq v ys₀ 0 z)),
+        sym (ap (sets ys (m.width * k)) keeps.none) ∙ ap (λ (x : Shown A). x.output) e ∙ ap (λ (i : ℕ). sets ys₀ i v) w ∙ (rw zero-add at (sets-eq v ys₀ 0 z)),
       ),
     )
 
-module _ {A : Type 0} {o : Ops A} {m : Form A} {p : Params} {l : List A} {n q : ℕ} {s₀ : Track A} {ys₀ : List Float} where
+module _ {A : Type 0} {o : Ops A} {m : Form A} (keeps : FormLaws m) {p : Params} {l : List A} {n q : ℕ} {s₀ : Track A} {ys₀ : List Float} where
   pub begins : length l ≡ n + 3 → n < 2 ^ 63 → q < 2 ^ 61 → m.width * q ≤ length ys₀ → TrackRunning p n s₀ → Underway o m p l n q s₀ ys₀ s₀ ys₀ 0
   begins long i j room g = record { long = long; input-small = i; output-small = j; room = room; same = refl; done = omega arith; running = g; shows = rw sub-zero }
 
@@ -108,7 +88,7 @@ module _ {A : Type 0} {o : Ops A} {m : Form A} {p : Params} {l : List A} {n q : 
 
     -- all places are full
     pub ends-full : q ≤ k → Ended m (runs o p l q s₀) ys₀ s k ys
-    ends-full f = ends m (runs o p l q s₀) ys₀ s k ys fits (ap (shown m k ys) (sym (runs-full o p l q k s f)) ∙ u.shows)
+    ends-full f = ends keeps (runs o p l q s₀) ys₀ s k ys fits (ap (shown m k ys) (sym (runs-full o p l q k s f)) ∙ u.shows)
 
     -- ---- a turn: t is the track with the middle taken; `lacking` and `can` are what `lacks` and `can_strobe` answer
     module _ {t : Track A} {lacking can : Bool} (mid : t ≡ mid_taken o p l s) (lacks-it : lacking ≡ lacks p t) (test : can ≡ (not lacking && leb t.clock.i n)) where
@@ -138,7 +118,7 @@ module _ {A : Type 0} {o : Ops A} {m : Form A} {p : Params} {l : List A} {n q : 
             running = subst (TrackRunning p n) (sym f) (strobed-running o p l n u.long t y (tells h) mid-running);
             shows =
                 ap (λ (x : List Float). shown m (k + 1) x (runs o p l (q - (k + 1)) v)) g
-                ∙ sym (shown-more m k ys y (runs o p l (q - (k + 1)) v))
+                ∙ sym (shown-more keeps k ys y (runs o p l (q - (k + 1)) v))
                 ∙ ap (λ (x : Track A). shown m k ys (more y (runs o p l (q - (k + 1)) x))) f
                 ∙ ap (λ (x : A). shown m k ys (more x (runs o p l (q - (k + 1)) (strobed o p t x)))) e
                 ∙ ap (shown m k ys) (sym step)
@@ -151,6 +131,6 @@ module _ {A : Type 0} {o : Ops A} {m : Form A} {p : Params} {l : List A} {n q : 
       -- the run stops here
       pub ends-stopped : k < q → not can ≡ true → Ended m (runs o p l q s₀) ys₀ t k ys
       ends-stopped left h =
-          ends m (runs o p l q s₀) ys₀ t k ys fits
+          ends keeps (runs o p l q s₀) ys₀ t k ys fits
           (ap (shown m k ys) (subst (λ (x : Track A). ready p l x ≡ false → stopped x ≡ runs o p l (q - k) s) (sym mid) (λ r. sym (runs-stop o p l q k s left r)) (tells h))
           ∙ u.shows)

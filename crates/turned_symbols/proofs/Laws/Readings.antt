@@ -14,8 +14,8 @@ use Rattle.symbol_numbers.specs.Turned.{Onto}
 use Rattle.symbol_numbers.proofs.Laws.Symbol.{symbol-alike}
 use Rattle.symbol_numbers.proofs.Laws.Turned.{symbol-turned}
 use Rattle.carrier.specs.Calls.{turns_less}
-use Rattle.receiver.specs.declared.record.TimingValues.{TimingValues}
-use Rattle.receiver.specs.declared.record.CarrierValues.{CarrierValues}
+use Rattle.timing.specs.declared.params.TimingValues.{TimingValues}
+use Rattle.carrier.specs.declared.params.CarrierValues.{CarrierValues}
 use Rattle.receiver.specs.Record.{Receiver, phase_set}
 use Rattle.sample_calls.specs.Call.{Outcome}
 use Rattle.sample_calls.specs.Calls.{Fresh, Call, TurnedCall, TurnedOutcome}

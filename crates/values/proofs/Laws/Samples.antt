@@ -1,9 +1,8 @@
 -- The samples of a slice: how many there are, the one at an index, a part of the slice, one stored; and the way back.
 -- Assumes nothing.
-use mathlib.Core.Path.{◌≡◌, refl, sym, ap, ◌∙◌}
+use mathlib.Core.Path.{◌≡◌, refl, ap, ◌∙◌}
 use mathlib.Core.List.{List, [], ◌∷◌, ◌++◌}
 use Prim.Native.Nat.{ℕ, zero, suc, ◌+◌, ◌*◌, ◌/◌, ◌%◌, ◌<◌, ◌≤◌}
-use native.Mathlib.Numerals.{add-one}
 use native.Mathlib.Omega.{arith}
 use borrow.Author.Tests.{lt-ltb, le-ltb}
 use lib.ListN.{get_or-eq_default, length, length-drop, get_or, take, drop, set}
@@ -101,9 +100,6 @@ samples-rest n xs ys even = samples-append (drop (2 * n) xs) ys (omega (arith, l
 -- ---- a sample is stored
 pub stored-sets : (ys : List Float) (k : ℕ) (y : C32) → k < length ys / 2 → stored ys k y ≡ sets ys (2 * k) (y.re ∷ y.im ∷ [])
 stored-sets ys k y h = rw (lt-ltb k (length ys / 2) h)
-
-pub stored-in : (ys : List Float) (k : ℕ) (y : C32) → k < length ys / 2 → stored ys k y ≡ set (set ys (2 * k) y.re) (2 * k + 1) y.im
-stored-in ys k y h = stored-sets ys k y h ∙ ap (λ (i : ℕ). set (set ys (2 * k) y.re) i y.im) (sym (add-one (2 * k)))
 
 pub stored_past : (ys : List Float) (k : ℕ) (y : C32) → length ys / 2 ≤ k → stored ys k y ≡ ys
 stored_past ys k y h = rw (le-ltb k (length ys / 2) h)

@@ -1,6 +1,7 @@
 -- O11: what a tape puts out, and the number that ends it, are those of the same commands made directly as the receiver's
 -- own calls: set-ups by `opened`, and `replaced_timing` and `replaced_carrier` once both loops are there; samples by
 -- `called`; a reset by `restarted`. Assumes nothing.
+use Rattle.std.specs.Prelude.{Ok, Err}
 use mathlib.Core.Path.{◌≡◌, refl, sym, ap, ◌∙◌}
 use mathlib.Core.Bool.{Bool, true, false, cond}
 use mathlib.Core.List.{List, []}
@@ -13,15 +14,13 @@ use lib.Ieee.{Float}
 use Rattle.values.specs.declared.error.Refusal.TheVariants.{Cut}
 use Rattle.values.specs.Refusal.{number_of}
 use Rattle.little_endian.specs.Samples.{bytes}
-use Rattle.complex_sync.specs.declared.state.SymbolSyncState.{SymbolSyncState}
-use Rattle.complex_sync.specs.declared.state.SetUp as timingAnswer
-use Rattle.complex_sync.specs.declared.state.SetUp.TheVariants as timingSetUp
+use Rattle.complex_sync.specs.Views.{SymbolSyncState}
+use Rattle.complex_sync.specs.Views.{SetUp as TimingSetUp}
 use Rattle.constellations.specs.declared.kinds.CostasConstellation.{CostasConstellation}
 use Rattle.carrier.specs.declared.state.CostasState.{CostasState}
-use Rattle.carrier.specs.declared.state.SetUp as carrierAnswer
-use Rattle.carrier.specs.declared.state.SetUp.TheVariants as carrierSetUp
-use Rattle.receiver.specs.declared.record.TimingValues.{TimingValues}
-use Rattle.receiver.specs.declared.record.CarrierValues.{CarrierValues}
+use Rattle.carrier.specs.State.{SetUp as CarrierSetUp}
+use Rattle.timing.specs.declared.params.TimingValues.{TimingValues}
+use Rattle.carrier.specs.declared.params.CarrierValues.{CarrierValues}
 use Rattle.receiver.specs.Record.{Receiver, restarted}
 use Rattle.receiver.specs.Loops.{timing_opened, carrier_opened, in_turn}
 use Rattle.receiver.proofs.Laws.Loops.{opened-in-turn, timing_in, carrier_in, replaced-timing, replaced-carrier}
@@ -39,8 +38,8 @@ use Rattle.tape.proofs.Laws.Reads.{reads}
 -- the values of which a desk's loops are the set-ups
 data Stands : Direct → Desk → Type 0 where
   stands-empty : Stands neither Empty
-  stands-timing : (v : TimingValues) (s : SymbolSyncState) → timing_opened v ≡ timingSetUp.Ready s → Stands (timing-alone v) (Timing s)
-  stands-carrier : (k : CostasConstellation) (v : CarrierValues) (c : CostasState) → carrier_opened k v ≡ carrierSetUp.Ready c → Stands (carrier-alone k v) (Carrier c)
+  stands-timing : (v : TimingValues) (s : SymbolSyncState) → timing_opened v ≡ Ok s → Stands (timing-alone v) (Timing s)
+  stands-carrier : (k : CostasConstellation) (v : CarrierValues) (c : CostasState) → carrier_opened k v ≡ Ok c → Stands (carrier-alone k v) (Carrier c)
   stands-both : (r : Receiver) → Stands (both r) (Both r)
 
 -- what a script tells
@@ -66,28 +65,28 @@ module _ (n : ℕ) (rest : (at : ℕ) (s : Direct) (d : Desk) (l : List ℕ) →
   ends s false = refl
 
   module _ (k : CostasConstellation) (v : CarrierValues) (whole : 26 ≤ length l) where
-    carrier-told : (s : Direct) (d : Desk) → Stands s d → (a : carrierAnswer.SetUp) → carrier_opened k v ≡ a → on (carrier_answered d a) ≡ carrier_set (after 26) k v s
+    carrier-told : (s : Direct) (d : Desk) → Stands s d → (a : CarrierSetUp) → carrier_opened k v ≡ a → on (carrier_answered d a) ≡ carrier_set (after 26) k v s
     unfolding output_of bytes
-    carrier-told s d stands-empty (carrierSetUp.Ready c) e = rest (at + 26) (carrier-alone k v) (Carrier c) (drop 26 l) (stands-carrier k v c e) (shorter 26 (omega arith) whole) ∙ ap (λ (a : carrierAnswer.SetUp). by_carrier a (after 26 (carrier-alone k v))) (sym e)
-    carrier-told s d stands-empty (carrierSetUp.Refused m) e = ap (λ (a : carrierAnswer.SetUp). by_carrier a (after 26 (carrier-alone k v))) (sym e)
-    carrier-told s d (stands-carrier j w b f) (carrierSetUp.Ready c) e = rest (at + 26) (carrier-alone k v) (Carrier c) (drop 26 l) (stands-carrier k v c e) (shorter 26 (omega arith) whole) ∙ ap (λ (a : carrierAnswer.SetUp). by_carrier a (after 26 (carrier-alone k v))) (sym e)
-    carrier-told s d (stands-carrier j w b f) (carrierSetUp.Refused m) e = ap (λ (a : carrierAnswer.SetUp). by_carrier a (after 26 (carrier-alone k v))) (sym e)
-    carrier-told s d (stands-timing t q f) (carrierSetUp.Ready c) e = rest (at + 26) (both _) (Both _) (drop 26 l) (stands-both _) (shorter 26 (omega arith) whole) ∙ ap (by_receiver (after 26)) (sym (opened-in-turn k t v ∙ (λ j. in_turn (f j) (e j))))
-    carrier-told s d (stands-timing t q f) (carrierSetUp.Refused m) e = ap (by_receiver (after 26)) (sym (opened-in-turn k t v ∙ (λ j. in_turn (f j) (e j))))
-    carrier-told s d (stands-both r) (carrierSetUp.Ready c) e = rest (at + 26) (both _) (Both _) (drop 26 l) (stands-both _) (shorter 26 (omega arith) whole) ∙ ap (by_receiver (after 26)) (sym (replaced-carrier r k v ∙ ap (carrier_in r) e))
-    carrier-told s d (stands-both r) (carrierSetUp.Refused m) e = ap (by_receiver (after 26)) (sym (replaced-carrier r k v ∙ ap (carrier_in r) e))
+    carrier-told s d stands-empty (Ok c) e = rest (at + 26) (carrier-alone k v) (Carrier c) (drop 26 l) (stands-carrier k v c e) (shorter 26 (omega arith) whole) ∙ ap (λ (a : CarrierSetUp). by_carrier a (after 26 (carrier-alone k v))) (sym e)
+    carrier-told s d stands-empty (Err m) e = ap (λ (a : CarrierSetUp). by_carrier a (after 26 (carrier-alone k v))) (sym e)
+    carrier-told s d (stands-carrier j w b f) (Ok c) e = rest (at + 26) (carrier-alone k v) (Carrier c) (drop 26 l) (stands-carrier k v c e) (shorter 26 (omega arith) whole) ∙ ap (λ (a : CarrierSetUp). by_carrier a (after 26 (carrier-alone k v))) (sym e)
+    carrier-told s d (stands-carrier j w b f) (Err m) e = ap (λ (a : CarrierSetUp). by_carrier a (after 26 (carrier-alone k v))) (sym e)
+    carrier-told s d (stands-timing t q f) (Ok c) e = rest (at + 26) (both _) (Both _) (drop 26 l) (stands-both _) (shorter 26 (omega arith) whole) ∙ ap (by_receiver (after 26)) (sym (opened-in-turn k t v ∙ (λ j. in_turn (f j) (e j))))
+    carrier-told s d (stands-timing t q f) (Err m) e = ap (by_receiver (after 26)) (sym (opened-in-turn k t v ∙ (λ j. in_turn (f j) (e j))))
+    carrier-told s d (stands-both r) (Ok c) e = rest (at + 26) (both _) (Both _) (drop 26 l) (stands-both _) (shorter 26 (omega arith) whole) ∙ ap (by_receiver (after 26)) (sym (replaced-carrier r k v ∙ ap (carrier_in r) e))
+    carrier-told s d (stands-both r) (Err m) e = ap (by_receiver (after 26)) (sym (replaced-carrier r k v ∙ ap (carrier_in r) e))
 
   module _ (v : TimingValues) (whole : 42 ≤ length l) where
-    timing-told : (s : Direct) (d : Desk) → Stands s d → (a : timingAnswer.SetUp) → timing_opened v ≡ a → on (timing_answered d a) ≡ timing_set (after 42) v s
+    timing-told : (s : Direct) (d : Desk) → Stands s d → (a : TimingSetUp) → timing_opened v ≡ a → on (timing_answered d a) ≡ timing_set (after 42) v s
     unfolding output_of bytes
-    timing-told s d stands-empty (timingSetUp.Ready q) e = rest (at + 42) (timing-alone v) (Timing q) (drop 42 l) (stands-timing v q e) (shorter 42 (omega arith) whole) ∙ ap (λ (a : timingAnswer.SetUp). by_timing a (after 42 (timing-alone v))) (sym e)
-    timing-told s d stands-empty (timingSetUp.Refused m) e = ap (λ (a : timingAnswer.SetUp). by_timing a (after 42 (timing-alone v))) (sym e)
-    timing-told s d (stands-timing w p f) (timingSetUp.Ready q) e = rest (at + 42) (timing-alone v) (Timing q) (drop 42 l) (stands-timing v q e) (shorter 42 (omega arith) whole) ∙ ap (λ (a : timingAnswer.SetUp). by_timing a (after 42 (timing-alone v))) (sym e)
-    timing-told s d (stands-timing w p f) (timingSetUp.Refused m) e = ap (λ (a : timingAnswer.SetUp). by_timing a (after 42 (timing-alone v))) (sym e)
-    timing-told s d (stands-carrier k w c f) (timingSetUp.Ready q) e = rest (at + 42) (both _) (Both _) (drop 42 l) (stands-both _) (shorter 42 (omega arith) whole) ∙ ap (by_receiver (after 42)) (sym (opened-in-turn k v w ∙ (λ j. in_turn (e j) (f j))))
-    timing-told s d (stands-carrier k w c f) (timingSetUp.Refused m) e = ap (by_receiver (after 42)) (sym (opened-in-turn k v w ∙ (λ j. in_turn (e j) (f j))))
-    timing-told s d (stands-both r) (timingSetUp.Ready q) e = rest (at + 42) (both _) (Both _) (drop 42 l) (stands-both _) (shorter 42 (omega arith) whole) ∙ ap (by_receiver (after 42)) (sym (replaced-timing r v ∙ ap (timing_in r) e))
-    timing-told s d (stands-both r) (timingSetUp.Refused m) e = ap (by_receiver (after 42)) (sym (replaced-timing r v ∙ ap (timing_in r) e))
+    timing-told s d stands-empty (Ok q) e = rest (at + 42) (timing-alone v) (Timing q) (drop 42 l) (stands-timing v q e) (shorter 42 (omega arith) whole) ∙ ap (λ (a : TimingSetUp). by_timing a (after 42 (timing-alone v))) (sym e)
+    timing-told s d stands-empty (Err m) e = ap (λ (a : TimingSetUp). by_timing a (after 42 (timing-alone v))) (sym e)
+    timing-told s d (stands-timing w p f) (Ok q) e = rest (at + 42) (timing-alone v) (Timing q) (drop 42 l) (stands-timing v q e) (shorter 42 (omega arith) whole) ∙ ap (λ (a : TimingSetUp). by_timing a (after 42 (timing-alone v))) (sym e)
+    timing-told s d (stands-timing w p f) (Err m) e = ap (λ (a : TimingSetUp). by_timing a (after 42 (timing-alone v))) (sym e)
+    timing-told s d (stands-carrier k w c f) (Ok q) e = rest (at + 42) (both _) (Both _) (drop 42 l) (stands-both _) (shorter 42 (omega arith) whole) ∙ ap (by_receiver (after 42)) (sym (opened-in-turn k v w ∙ (λ j. in_turn (e j) (f j))))
+    timing-told s d (stands-carrier k w c f) (Err m) e = ap (by_receiver (after 42)) (sym (opened-in-turn k v w ∙ (λ j. in_turn (e j) (f j))))
+    timing-told s d (stands-both r) (Ok q) e = rest (at + 42) (both _) (Both _) (drop 42 l) (stands-both _) (shorter 42 (omega arith) whole) ∙ ap (by_receiver (after 42)) (sym (replaced-timing r v ∙ ap (timing_in r) e))
+    timing-told s d (stands-both r) (Err m) e = ap (by_receiver (after 42)) (sym (replaced-timing r v ∙ ap (timing_in r) e))
 
   -- samples, where they are whole, and a reset
   samples-told : (xs : List Float) (end : ℕ) → 1 ≤ end → end ≤ length l → (s : Direct) (d : Desk) → Stands s d → on (acted d (samples xs end)) ≡ tells (script_on (scripts n) l (samples xs end)) s

@@ -1,14 +1,13 @@
 -- How far a tape is read: a refused one up to and including the field that is refused, one that is cut off, or that runs,
 -- to its end. Assumes nothing.
+use Rattle.std.specs.Prelude.{Ok, Err}
 use mathlib.Core.Path.{◌≡◌, refl, ap, ◌∙◌}
 use mathlib.Core.List.{List}
 use Prim.Native.Nat.{ℕ, zero, suc, ◌+◌, ◌<◌}
 use native.Mathlib.Omega.{arith}
 use lib.ListN.{length, drop, length-drop}
-use Rattle.complex_sync.specs.declared.state.SetUp as timingAnswer
-use Rattle.complex_sync.specs.declared.state.SetUp.TheVariants as timingSetUp
-use Rattle.carrier.specs.declared.state.SetUp as carrierAnswer
-use Rattle.carrier.specs.declared.state.SetUp.TheVariants as carrierSetUp
+use Rattle.complex_sync.specs.Views.{SetUp as TimingSetUp}
+use Rattle.carrier.specs.State.{SetUp as CarrierSetUp}
 use Rattle.receiver.specs.Loops.{timing_opened, carrier_opened}
 use Rattle.tape.specs.declared.desk.Desk.{Desk}
 use Rattle.tape.specs.declared.desk.Desk.TheVariants.{Empty}
@@ -26,13 +25,13 @@ read_on l (done d used xs) = used
 read_on l (refused r read) = read
 
 module _ (d : Desk) (l : List ℕ) where
-  carrier-read : (a : carrierAnswer.SetUp) → read_on l (carrier_answered d a) ≡ 26
-  carrier-read (carrierSetUp.Ready c) = refl
-  carrier-read (carrierSetUp.Refused n) = refl
+  carrier-read : (a : CarrierSetUp) → read_on l (carrier_answered d a) ≡ 26
+  carrier-read (Ok c) = refl
+  carrier-read (Err n) = refl
 
-  timing-read : (a : timingAnswer.SetUp) → read_on l (timing_answered d a) ≡ 42
-  timing-read (timingSetUp.Ready s) = refl
-  timing-read (timingSetUp.Refused n) = refl
+  timing-read : (a : TimingSetUp) → read_on l (timing_answered d a) ≡ 42
+  timing-read (Ok s) = refl
+  timing-read (Err n) = refl
 
   place : {n : ℕ} (s : Stops d l n) → read_on l (stepped d l) ≡ place_of s
   place (not-defined h) = ap (read_on l) (step_is d l h)

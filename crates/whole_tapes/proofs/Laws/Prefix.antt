@@ -1,5 +1,6 @@
 -- How the first bytes of a command read: what is decided within them stays with more bytes behind them, and of what is
 -- not they want more. Assumes nothing.
+use Rattle.std.specs.Prelude.{Ok, Err}
 use mathlib.Core.Path.{◌≡◌, ap, ◌∙◌}
 use mathlib.Core.Bool.{Bool, true, false, cond}
 use mathlib.Core.List.{List, ◌++◌}
@@ -12,10 +13,8 @@ use lib.Ieee.{Float, binary64, of_bits}
 use Rattle.values.specs.declared.error.Refusal.{Refusal}
 use Rattle.little_endian.specs.Bytes.{little_endian}
 use Rattle.little_endian.specs.Samples.{double_at, floats}
-use Rattle.complex_sync.specs.declared.state.SetUp as timingAnswer
-use Rattle.complex_sync.specs.declared.state.SetUp.TheVariants as timingSetUp
-use Rattle.carrier.specs.declared.state.SetUp as carrierAnswer
-use Rattle.carrier.specs.declared.state.SetUp.TheVariants as carrierSetUp
+use Rattle.complex_sync.specs.Views.{SetUp as TimingSetUp}
+use Rattle.carrier.specs.State.{SetUp as CarrierSetUp}
 use Rattle.receiver.specs.Record.{Receiver}
 use Rattle.receiver.specs.Loops.{timing_opened, carrier_opened}
 use Rattle.plain.specs.Codes.{detector_of, detector_named, constellation_of, constellation_named}
@@ -82,21 +81,21 @@ pub data Front (m : ℕ) : Stepped → Stepped → Type 0 where
 
 -- a set-up is decided behind its last field
 module _ (m : ℕ) (d : Desk) where
-  carrier-past : (a : carrierAnswer.SetUp) → m < 26 → Past m (carrier_answered d a)
-  carrier-past (carrierSetUp.Ready c) h = h
-  carrier-past (carrierSetUp.Refused n) h = h
+  carrier-past : (a : CarrierSetUp) → m < 26 → Past m (carrier_answered d a)
+  carrier-past (Ok c) h = h
+  carrier-past (Err n) h = h
 
-  carrier-same : (a : carrierAnswer.SetUp) → 26 ≤ m → Front m (carrier_answered d a) (carrier_answered d a)
-  carrier-same (carrierSetUp.Ready c) h = same-command h
-  carrier-same (carrierSetUp.Refused n) h = same-refusal h
+  carrier-same : (a : CarrierSetUp) → 26 ≤ m → Front m (carrier_answered d a) (carrier_answered d a)
+  carrier-same (Ok c) h = same-command h
+  carrier-same (Err n) h = same-refusal h
 
-  timing-past : (a : timingAnswer.SetUp) → m < 42 → Past m (timing_answered d a)
-  timing-past (timingSetUp.Ready s) h = h
-  timing-past (timingSetUp.Refused n) h = h
+  timing-past : (a : TimingSetUp) → m < 42 → Past m (timing_answered d a)
+  timing-past (Ok s) h = h
+  timing-past (Err n) h = h
 
-  timing-same : (a : timingAnswer.SetUp) → 42 ≤ m → Front m (timing_answered d a) (timing_answered d a)
-  timing-same (timingSetUp.Ready s) h = same-command h
-  timing-same (timingSetUp.Refused n) h = same-refusal h
+  timing-same : (a : TimingSetUp) → 42 ≤ m → Front m (timing_answered d a) (timing_answered d a)
+  timing-same (Ok s) h = same-command h
+  timing-same (Err n) h = same-refusal h
 
 -- what needs both loops is refused behind n bytes without them
 both-past : (m : ℕ) (d : Desk) (n : ℕ) (f : Receiver → Stepped) → m < n → ((r : Receiver) → Past m (f r)) → Past m (with_both d n f)

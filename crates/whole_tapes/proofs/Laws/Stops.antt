@@ -1,5 +1,6 @@
 -- E1 to E6 and E9 to E11: a tape's number is n exactly if the first command that is not carried out is refused, or cut
 -- off, with the number n; it is 0 exactly if every command is carried out and the tape ends behind one. Assumes nothing.
+use Rattle.std.specs.Prelude.{Ok, Err}
 use mathlib.Core.Path.{◌≡◌, refl, sym, ap, ◌∙◌, subst}
 use mathlib.Core.Bool.{Bool, true, cond}
 use mathlib.Core.List.{List, [], ◌∷◌}
@@ -14,13 +15,10 @@ use Rattle.values.specs.Refusal.{number_of}
 use Rattle.values.proofs.Laws.Refusal.{refused-above}
 use Rattle.checks.specs.Table.{Row, First}
 use Rattle.checks.specs.Table as row
-use Rattle.complex_sync.specs.declared.state.SetUp as timingAnswer
-use Rattle.complex_sync.specs.declared.state.SetUp.TheVariants as timingSetUp
-use Rattle.carrier.specs.declared.state.SetUp as carrierAnswer
-use Rattle.carrier.specs.declared.state.SetUp.TheVariants as carrierSetUp
-use Rattle.carrier.specs.State.{set_up_number}
-use Rattle.receiver.specs.declared.record.TimingValues.{TimingValues}
-use Rattle.receiver.specs.declared.record.CarrierValues.{CarrierValues}
+use Rattle.complex_sync.specs.Views.{SetUp as TimingSetUp}
+use Rattle.carrier.specs.State.{SetUp as CarrierSetUp, set_up_number}
+use Rattle.timing.specs.declared.params.TimingValues.{TimingValues}
+use Rattle.carrier.specs.declared.params.CarrierValues.{CarrierValues}
 use Rattle.receiver.specs.Record.{Receiver, timing_rows, carrier_rows}
 use Rattle.receiver.specs.Loops.{timing_opened, carrier_opened, timing_number}
 use Rattle.receiver.proofs.Laws.Loops.{timing-exactly, carrier-exactly}
@@ -66,13 +64,13 @@ pub is-early : (d : Desk) → Missing d → (read : ℕ) (f : Receiver → Stepp
 is-early d m read f = both-or (λ (s : Stepped). s ≡ refused Early read) d read f (λ h. refl) (λ r e. absurd (m r e))
 
 module _ (d : Desk) (l : List ℕ) where
-  carrier-number : (a : carrierAnswer.SetUp) → number_on l (carrier_answered d a) ≡ set_up_number a
-  carrier-number (carrierSetUp.Ready c) = refl
-  carrier-number (carrierSetUp.Refused n) = refl
+  carrier-number : (a : CarrierSetUp) → number_on l (carrier_answered d a) ≡ set_up_number a
+  carrier-number (Ok c) = refl
+  carrier-number (Err n) = refl
 
-  timing-number : (a : timingAnswer.SetUp) → number_on l (timing_answered d a) ≡ timing_number a
-  timing-number (timingSetUp.Ready s) = refl
-  timing-number (timingSetUp.Refused n) = refl
+  timing-number : (a : TimingSetUp) → number_on l (timing_answered d a) ≡ timing_number a
+  timing-number (Ok s) = refl
+  timing-number (Err n) = refl
 
   -- from its number to the condition
   module _ (n : ℕ) (p : 0 < n) where

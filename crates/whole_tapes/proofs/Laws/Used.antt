@@ -1,4 +1,5 @@
 -- A command that is carried out has at least one byte, and no more than there are. Assumes nothing.
+use Rattle.std.specs.Prelude.{Ok, Err}
 use mathlib.Core.Path.{◌≡◌}
 use mathlib.Core.List.{List}
 use Prim.Native.Nat.{ℕ, ◌≤◌}
@@ -6,10 +7,8 @@ use native.Mathlib.Omega.{arith}
 use lib.ListN.{length}
 use lib.Ieee.{Float}
 use Rattle.values.specs.declared.error.Refusal.{Refusal}
-use Rattle.complex_sync.specs.declared.state.SetUp as timingAnswer
-use Rattle.complex_sync.specs.declared.state.SetUp.TheVariants as timingSetUp
-use Rattle.carrier.specs.declared.state.SetUp as carrierAnswer
-use Rattle.carrier.specs.declared.state.SetUp.TheVariants as carrierSetUp
+use Rattle.complex_sync.specs.Views.{SetUp as TimingSetUp}
+use Rattle.carrier.specs.State.{SetUp as CarrierSetUp}
 use Rattle.receiver.specs.Record.{Receiver}
 use Rattle.receiver.specs.Loops.{timing_opened, carrier_opened}
 use Rattle.plain.specs.Codes.{detector_of, constellation_of}
@@ -31,13 +30,13 @@ module _ (d e : Desk) (used : ℕ) (xs : List Float) where
   same-used : {f : Desk} {n : ℕ} {ys : List Float} → done f n ys ≡ done e used xs → n ≡ used
   same-used h = cc
 
-  carrier-used : (a : carrierAnswer.SetUp) → carrier_answered d a ≡ done e used xs → 26 ≡ used
-  carrier-used (carrierSetUp.Ready c) h = same-used h
-  carrier-used (carrierSetUp.Refused n) h = refused-done h
+  carrier-used : (a : CarrierSetUp) → carrier_answered d a ≡ done e used xs → 26 ≡ used
+  carrier-used (Ok c) h = same-used h
+  carrier-used (Err n) h = refused-done h
 
-  timing-used : (a : timingAnswer.SetUp) → timing_answered d a ≡ done e used xs → 42 ≡ used
-  timing-used (timingSetUp.Ready s) h = same-used h
-  timing-used (timingSetUp.Refused n) h = refused-done h
+  timing-used : (a : TimingSetUp) → timing_answered d a ≡ done e used xs → 42 ≡ used
+  timing-used (Ok s) h = same-used h
+  timing-used (Err n) h = refused-done h
 
   both_used : {G : Type 0} (b : Desk) (n : ℕ) (f : Receiver → Stepped) → ((r : Receiver) → f r ≡ done e used xs → G) → with_both b n f ≡ done e used xs → G
   both_used Empty n f g h = refused-done h

@@ -1,20 +1,18 @@
--- `answers::same_floats` meets its contract, by the loop's invariant. Assumes nothing.
-use Rattle.std.proofs.Common.{sym, refl, ◌∙◌, arith}
-use lib.Ieee.{binary32, to_bits}
-use Rattle.answers.proofs.Laws.Slices.{uneven, ends, differs, goes_on}
+-- `answers::same_floats` meets its contract: `all` tests every pair. Assumes nothing.
+use Rattle.std.proofs.Common.{rules, ◌∙◌}
+use Rattle.std.proofs.lemmas.Iterator.{YieldsList-from_slice, YieldsList-from_zip}
+use Rattle.std.proofs.lemmas.Iterator.Search.{all_from_yields_List}
+use borrow.Author.Tests.{tests}
+use lib.Ieee.{Float, binary32, to_bits}
+use lib.Dec.{eqb}
+use Rattle.answers.proofs.Laws.Slices.{pairs_agree}
 use Rattle.answers.proofs.slices.same_floats.Goals as goal
 
 pub returns-then-a-b : goal.returns-then-a-b
-returns-then-a-b c = let a = c.args in uneven (to_bits binary32) a.a.now a.b.now c.if-a-b.true
-
-pub loop-i-init : goal.loop-i-init
-loop-i-init c = record { equal = c.if-a-b.false; within = omega arith; rest = refl }
-
-pub returns-else-same_f32 : goal.returns-else-same_f32
-returns-else-same_f32 c = differs c.loop-i.invariant c.loop-i-test.true _ (sym c.same_f32.ensures ∙ c.if-same_f32.false)
-
-pub loop-i-preserved : goal.loop-i-preserved
-loop-i-preserved c = goes_on c.loop-i.invariant c.loop-i-test.true _ (sym c.same_f32.ensures ∙ c.if-same_f32.true)
-
-pub returns : goal.returns
-returns c = ends c.loop-i.invariant c.loop-i-test.false
+returns-then-a-b c =
+    let a = c.args.a.now in
+    let b = c.args.b.now in
+    all_from_yields_List (λ (p : Float × Float). eqb (to_bits binary32 p.0) (to_bits binary32 p.1)) c.all.new.self _ c.all.result c.all.ensures.ran
+    (YieldsList-from_zip (YieldsList-from_slice a (cc)) (YieldsList-from_slice b (cc)))
+    (λ x r q k. search (rules, tests))
+    ∙ pairs_agree _ a b c.if-a-b.true

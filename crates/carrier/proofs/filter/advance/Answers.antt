@@ -10,10 +10,10 @@ use Rattle.carrier.proofs.filter.advance.Goals as goal
 abbrev picked : Float → Bool → Float
 picked e is = cond is e zero₀
 
-pub returns-then-is_finite_f32 : goal.returns-then-is_finite_f32
+pub returns-then-is_finite : goal.returns-then-is_finite
 unfolding calmed
-returns-then-is_finite_f32 c = let a = c.args in c.steer.ensures ∙ (λ j. advanced a.p a.n (picked a.e ((sym c.if-is_finite_f32.true ∙ c.is_finite_f32.ensures) j)))
+returns-then-is_finite c = let a = c.args in c.steer.ensures ∙ (λ j. advanced a.p a.n (picked a.e ((sym c.if-is_finite.true ∙ c.is_finite.ensures) j)))
 
-pub returns-else-is_finite_f32 : goal.returns-else-is_finite_f32
+pub returns-else-is_finite : goal.returns-else-is_finite
 unfolding calmed
-returns-else-is_finite_f32 c = let a = c.args in c.coast.ensures ∙ (λ j. advanced a.p a.n (picked a.e ((sym c.if-is_finite_f32.false ∙ c.is_finite_f32.ensures) j)))
+returns-else-is_finite c = let a = c.args in c.coast.ensures ∙ (λ j. advanced a.p a.n (picked a.e ((sym c.if-is_finite.false ∙ c.is_finite.ensures) j)))

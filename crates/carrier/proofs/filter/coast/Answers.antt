@@ -14,7 +14,7 @@ pub returns : goal.returns
 unfolding new_freq advanced of_bits
 returns c =
     let a = c.args in
-    let f = c.limit_f32-freq.ensures ∙ ap (λ (x : Float). limited x a.p.max) c.flush_denormal.ensures in
+    let f = c.limit-freq.ensures ∙ ap (λ (x : Float). limited x a.p.max) c.flush_denormal.ensures in
     let v : Float → Float = λ x. x ⊕ a.p.kp ⊗ zero₀ in
     let s = c.phase_step-step.ensures ∙ ap (λ (x : Float). step_of x turn₀) c.widen.ensures ∙ step-single _ (add-fits binary32 _ _) ∙ ap (λ (x : Float). phase_step (v x)) f in
     let p = c.wrapping_add_u32.ensures.value ∙ ap (λ (i : ℕ). (a.n.phase + i) % 2 ^ 32) s in

@@ -19,4 +19,4 @@ unfolding of_bits
 returns-then-f c = by-test _ _ _ true (c.flush_denormal-f.ensures ∙ ap (flushed binary32) c.narrow-single.ensures) c.if-f.true
 
 pub returns-else-f : goal.returns-else-f
-returns-else-f c = c.limit_f32.ensures ∙ by-test _ _ _ false (c.flush_denormal-f.ensures ∙ ap (flushed binary32) c.narrow-single.ensures) c.if-f.false
+returns-else-f c = c.limit.ensures ∙ by-test _ _ _ false (c.flush_denormal-f.ensures ∙ ap (flushed binary32) c.narrow-single.ensures) c.if-f.false

@@ -12,4 +12,4 @@ returns c =
     let a = c.args in
     let g = c.loop_gains-g.ensures in
     let m = c.flush_denormal-limit.ensures ∙ ap (flushed binary32) c.narrow-single.ensures in
-    λ j. record { loop_bw = a.loop_bw; damping = a.damping; max_offset = a.max_offset; kp = (g j).kp; ki = (g j).ki; max = m j }
+    λ j. record { loop_bw = a.v.loop_bw; damping = a.v.damping; max_offset = a.v.max_offset; kp = (g j).kp; ki = (g j).ki; max = m j }

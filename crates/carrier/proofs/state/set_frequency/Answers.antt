@@ -10,4 +10,4 @@ pub returns-clause-given : goal.returns-clause-given
 returns-clause-given c =
     let s = c.args.s in
     let at : Float → CostasState = λ f. record { constellation = s.constellation; params = s.params; track = record { nco = record { phase = s.track.nco.phase; freq = f }; lock = s.track.lock } } in
-    subst (λ (t : CostasState). Given t) (sym (ap at c.frequency_of-f.ensures)) (frequency_set-given s c.args.freq c.requires)
+    subst (λ (t : CostasState). Given t) (sym (ap at c.frequency_of-after.ensures)) (frequency_set-given s c.args.freq c.requires)

@@ -5,10 +5,10 @@ use Rattle.ieee.proofs.Laws.Test.{and-held, and-failed}
 use Rattle.checks.specs.Range.{positive}
 use Rattle.checks.proofs.range.above_zero.Goals as goal
 
-pub returns-then-is_finite_f64 : goal.returns-then-is_finite_f64
+pub returns-then-is_finite : goal.returns-then-is_finite
 unfolding positive of_bits
-returns-then-is_finite_f64 c = and-held (sym c.is_finite_f64.ensures ∙ c.if-is_finite_f64.true) refl
+returns-then-is_finite c = and-held (sym c.is_finite.ensures ∙ c.if-is_finite.true) refl
 
-pub returns-else-is_finite_f64 : goal.returns-else-is_finite_f64
+pub returns-else-is_finite : goal.returns-else-is_finite
 unfolding positive
-returns-else-is_finite_f64 c = and-failed _ (sym c.is_finite_f64.ensures ∙ c.if-is_finite_f64.false) c.is_finite_f64.ensures
+returns-else-is_finite c = and-failed _ (sym c.is_finite.ensures ∙ c.if-is_finite.false) c.is_finite.ensures

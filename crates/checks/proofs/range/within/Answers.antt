@@ -5,7 +5,7 @@ use mathlib.Core.Logic.{◌⊎◌, inl, inr}
 use Rattle.ieee.proofs.Laws.Test.{and-held, and-failed}
 use Rattle.checks.specs.Range.{in_range}
 use Rattle.checks.proofs.range.within.Goals as goal
-use Rattle.checks.proofs.range.within.Goals.{then-is_finite_f64, else-is_finite_f64}
+use Rattle.checks.proofs.range.within.Goals.{then-is_finite, else-is_finite}
 
 -- the first two tests: v is the second where the first, r, holds
 low : {r v f l : Bool} → r ≡ f → ((r ≡ true) × (v ≡ l)) ⊎ ((r ≡ false) × (v ≡ r)) → v ≡ (f && l)
@@ -15,11 +15,11 @@ low e (inr w) = and-failed _ (sym e ∙ w.0) (w.1 ∙ e)
 pub returns-then-lo-x : goal.returns-then-lo-x
 unfolding in_range
 returns-then-lo-x c =
-    let e = low c.is_finite_f64.ensures (elim c.if-is_finite_f64.branch [ then-is_finite_f64 w ↦ inl (w.if-is_finite_f64.true, w.value-is) | else-is_finite_f64 w ↦ inr (w.if-is_finite_f64.false, w.value-is) ]) in
+    let e = low c.is_finite.ensures (elim c.if-is_finite.branch [ then-is_finite w ↦ inl (w.if-is_finite.true, w.value-is) | else-is_finite w ↦ inr (w.if-is_finite.false, w.value-is) ]) in
     and-held (sym e ∙ c.if-lo-x.true) refl
 
 pub returns-else-lo-x : goal.returns-else-lo-x
 unfolding in_range
 returns-else-lo-x c =
-    let e = low c.is_finite_f64.ensures (elim c.if-is_finite_f64.branch [ then-is_finite_f64 w ↦ inl (w.if-is_finite_f64.true, w.value-is) | else-is_finite_f64 w ↦ inr (w.if-is_finite_f64.false, w.value-is) ]) in
+    let e = low c.is_finite.ensures (elim c.if-is_finite.branch [ then-is_finite w ↦ inl (w.if-is_finite.true, w.value-is) | else-is_finite w ↦ inr (w.if-is_finite.false, w.value-is) ]) in
     and-failed _ (sym e ∙ c.if-lo-x.false) e

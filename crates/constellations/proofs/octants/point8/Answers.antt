@@ -4,7 +4,7 @@ use mathlib.Core.Path.{ap, ◌∙◌}
 use Prim.Native.Nat.{◌<◌}
 use native.Mathlib.Omega.{arith}
 use lib.Ieee.{of_bits, neg}
-use Rattle.lists.proofs.Laws.Reading.{get_or_default}
+use Rattle.std.proofs.lemmas.List.{get_or_default}
 use Rattle.constellations.specs.Octant.{points8, point_at}
 use Rattle.constellations.proofs.Laws.Octant.{octant-below}
 use Rattle.constellations.proofs.octants.point8.Goals as goal

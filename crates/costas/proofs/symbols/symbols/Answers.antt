@@ -6,7 +6,7 @@ use Rattle.costas.proofs.Laws.Loop.{reached-read, begins, goes_on, ends}
 use Rattle.costas.proofs.symbols.symbols.Goals as goal
 
 pub loop-k-init : goal.loop-k-init
-loop-k-init c = begins c.args.input.now c.least-n.ensures (omega (arith, c.least-n.ensures))
+loop-k-init c = begins c.args.input.now c.min-n.ensures
 
 pub loop-k-preserved : goal.loop-k-preserved
 loop-k-preserved c =

@@ -9,10 +9,10 @@ use Rattle.detectors.proofs.lock.watch.Goals as goal
 abbrev at : Lock → Float → Lock
 at k l = record { level = l; locked = lock_after k.locked l }
 
-pub returns-in-Number : goal.returns-in-Number
+pub returns-in-Some : goal.returns-in-Some
 unfolding watched smoothed of_bits round
-returns-in-Number c = let a = c.args in (λ j. record { level = c.flush_denormal-level.result; locked = c.hold-locked.ensures j }) ∙ (λ j. at a.k (c.flush_denormal-level.ensures j)) ∙ (λ j. watched a.k (sym c.in-Number.is j))
+returns-in-Some c = let a = c.args in (λ j. record { level = c.flush_denormal-level.result; locked = c.hold-locked.ensures j }) ∙ (λ j. at a.k (c.flush_denormal-level.ensures j)) ∙ (λ j. watched a.k (sym c.in-Some.is j))
 
-pub returns-in-Nothing : goal.returns-in-Nothing
+pub returns-in-None : goal.returns-in-None
 unfolding watched
-returns-in-Nothing c = let a = c.args in λ j. watched a.k (sym c.in-Nothing.is j)
+returns-in-None c = let a = c.args in λ j. watched a.k (sym c.in-None.is j)

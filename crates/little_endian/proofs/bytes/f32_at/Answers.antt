@@ -4,4 +4,4 @@ use Rattle.little_endian.proofs.Laws.Floats.{part-float}
 use Rattle.little_endian.proofs.bytes.f32_at.Goals as goal
 
 pub returns : goal.returns
-returns c = c.f32_of.ensures ∙ part-float c.args.bytes.now c.args.k c.requires c.little_endian.ensures.value
+returns c = c.of_bits.ensures ∙ part-float c.args.bytes.now c.args.k c.requires c.little_endian.ensures.value

@@ -6,4 +6,4 @@ use Rattle.little_endian.proofs.Laws.LittleEndian.{rest-spelled}
 use Rattle.little_endian.proofs.bytes.f64_at.Goals as goal
 
 pub returns : goal.returns
-returns c = c.f64_of.ensures ∙ ap (of_bits binary64) (c.little_endian.ensures.value ∙ rest-spelled c.args.bytes.now c.args.from c.least-at.ensures)
+returns c = c.of_bits.ensures ∙ ap (of_bits binary64) (c.little_endian.ensures.value ∙ rest-spelled c.args.bytes.now c.args.from c.min-at.ensures)

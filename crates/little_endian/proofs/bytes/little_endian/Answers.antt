@@ -1,44 +1,31 @@
--- `little_endian::little_endian` meets its contract. The loop's invariant: the value is what the bytes from place i on
--- spell. The measure is i. Assumes nothing.
-use Rattle.std.proofs.Common.{◌≡◌, ap, ◌∙◌, List, ℕ, ◌+◌, ◌-◌, ◌*◌, ◌^◌, ◌<◌, ◌≤◌, arith, length, get_or, take, drop}
+-- `little_endian::little_endian` meets its contract. The loop's invariant: what the bytes that are left spell in front of
+-- the value is the number of all. Assumes nothing.
+use Rattle.std.proofs.Common.{sym, ap, ◌∙◌, ℕ, List, arith}
 use Rattle.little_endian.specs.Bytes.{little_endian}
-use Rattle.little_endian.proofs.Laws.LittleEndian.{Bytes, none-spelled, eight-below, byte_more, room}
+use Rattle.little_endian.proofs.Laws.LittleEndian.{eight-below, first-eight, onto, onto-none, onto-last, last-fits, all-spelled}
 use Rattle.little_endian.proofs.bytes.little_endian.Goals as goal
 
--- in a turn: the bytes, and the value before the byte at i - 1 is added
-module _ (l : List ℕ) (h : Bytes l) (i v : ℕ) (some : 0 < i) (there : i ≤ length l) (near : i ≤ 8) (is : v ≡ little_endian (drop i (take 8 l))) where
-  value-is : v ≡ little_endian (drop (i - 1 + 1) (take 8 l))
-  value-is = let e : i ≡ i - 1 + 1 = omega arith in is ∙ ap (λ (j : ℕ). little_endian (drop j (take 8 l))) e
-
-  fits : get_or l (i - 1) 0 + 256 * v < 2 ^ 64
-  fits = let e = value-is in let r = room l h (i - 1) (omega arith) (omega arith) in omega arith
-
-  more : get_or l (i - 1) 0 + 256 * v ≡ little_endian (drop (i - 1) (take 8 l))
-  more = ap (λ (w : ℕ). get_or l (i - 1) 0 + 256 * w) value-is ∙ byte_more l h (i - 1) (omega arith) (omega arith)
-
-pub loop-i-init : goal.loop-i-init
-loop-i-init c = (omega arith, omega arith, none-spelled c.args.bytes.now c.least-i.result c.least-i.ensures)
-
-pub overflow_mul-value : goal.overflow_mul-value
-overflow_mul-value c =
-    let t = c.loop-i in
-    let r = fits c.args.bytes.now (λ k. (c.type_inv.bytes k).fits) t.i t.value c.loop-i-test.true t.invariant.0 t.invariant.1 t.invariant.2 in
-    omega arith
+pub loop-b-init : goal.loop-b-init
+loop-b-init c =
+    let l = c.args.bytes.now in
+    onto-none c.into_iter-b-iterator.result.iter.rest.now ∙ ap little_endian ((λ j. (c.into_iter-b-iterator.ensures.into_iter_gives j).iter.rest.now) ∙ (λ j. (c.rev-b-items.ensures.source j).rest.now) ∙ c.iter.ensures.rest ∙ first-eight l c.min-end.result c.min-end.ensures)
 
 pub overflow_add-value : goal.overflow_add-value
 overflow_add-value c =
-    let t = c.loop-i in
-    let r = fits c.args.bytes.now (λ k. (c.type_inv.bytes k).fits) t.i t.value c.loop-i-test.true t.invariant.0 t.invariant.1 t.invariant.2 in
-    omega arith
+    let l = c.args.bytes.now in
+    record { fits = last-fits l (λ k. (c.type_inv.bytes k).fits) c.next.new.self.iter.rest.now c.in-Some.b.now c.loop-b.value (ap (λ (m : List ℕ). onto m c.loop-b.value) (sym c.in-Some.ensures.steps) ∙ c.loop-b.invariant) }
 
-pub loop-i-preserved : goal.loop-i-preserved
-loop-i-preserved c =
-    let t = c.loop-i in
-    (omega arith, omega arith, more c.args.bytes.now (λ k. (c.type_inv.bytes k).fits) t.i t.value c.loop-i-test.true t.invariant.0 t.invariant.1 t.invariant.2)
+pub overflow_mul-value : goal.overflow_mul-value
+overflow_mul-value c =
+    let l = c.args.bytes.now in
+    let h = last-fits l (λ k. (c.type_inv.bytes k).fits) c.next.new.self.iter.rest.now c.in-Some.b.now c.loop-b.value (ap (λ (m : List ℕ). onto m c.loop-b.value) (sym c.in-Some.ensures.steps) ∙ c.loop-b.invariant) in
+    record { fits = omega arith }
+
+pub loop-b-preserved : goal.loop-b-preserved
+loop-b-preserved c = sym (onto-last c.next.new.self.iter.rest.now c.in-Some.b.now c.loop-b.value) ∙ ap (λ (m : List ℕ). onto m c.loop-b.value) (sym c.in-Some.ensures.steps) ∙ c.loop-b.invariant
+
+pub returns-clause-value : goal.returns-clause-value
+returns-clause-value c = all-spelled c.loop-b.b-iterator.iter.rest.now c.in-None.ensures.steps.0 c.loop-b.invariant
 
 pub returns-clause-below : goal.returns-clause-below
-returns-clause-below c =
-    let l = c.args.bytes.now in
-    let end : c.loop-i.i ≡ 0 = omega arith in
-    let e : c.loop-i.value ≡ little_endian (take 8 l) = c.loop-i.invariant.2 ∙ ap (λ (i : ℕ). little_endian (drop i (take 8 l))) end in
-    rw e (eight-below l (λ i. (c.type_inv.bytes i).fits))
+returns-clause-below c = let e = all-spelled c.loop-b.b-iterator.iter.rest.now c.in-None.ensures.steps.0 c.loop-b.invariant in rw e (eight-below c.args.bytes.now (λ k. (c.type_inv.bytes k).fits))

@@ -1,10 +1,8 @@
--- The value is what the bytes from place i on spell.
-use Rattle.std.proofs.Common.{◌≡◌, ◌≤◌, length, take, drop}
+-- What the bytes that are left spell in front of the value is the number of all.
+use Rattle.std.proofs.Common.{◌≡◌, take}
 use Rattle.little_endian.specs.Bytes.{little_endian}
+use Rattle.little_endian.proofs.Laws.LittleEndian.{onto}
 use Rattle.little_endian.proofs.bytes.little_endian.Given as goal
 
-abbrev pub invariant-loop-i : goal.invariant-loop-i
-invariant-loop-i l = (l.i ≤ length l.bytes) × (l.i ≤ 8) × (l.value ≡ little_endian (drop l.i (take 8 l.bytes)))
-
-abbrev pub decreases-loop-i : goal.decreases-loop-i
-decreases-loop-i l = l.i
+abbrev pub invariant-loop-b : goal.invariant-loop-b
+invariant-loop-b l = onto l.b-iterator.iter.rest.now l.value ≡ little_endian (take 8 l.bytes)

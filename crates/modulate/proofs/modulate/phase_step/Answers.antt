@@ -6,7 +6,7 @@ use Rattle.modulate.proofs.modulate.phase_step.Goals as goal
 
 pub phase_step_fast-requires : goal.phase_step_fast-requires
 unfolding of_bits neg
-phase_step_fast-requires c = record { t = yes c.if-v-2.true; t_2 = yes c.if-v.true }
+phase_step_fast-requires c = record { lower_bound = yes c.if-v-2.true; upper_bound = yes c.if-v.true }
 
 pub returns-then-v-2 : goal.returns-then-v-2
 unfolding of_bits

@@ -7,9 +7,9 @@ use Rattle.modulate.proofs.modulate.phase_step_fast.Goals as goal
 
 pub float_to_bits-low : goal.float_to_bits-low
 unfolding of_bits
-float_to_bits-low c = sum_number c.args.v c.requires.t c.requires.t_2
+float_to_bits-low c = sum_number c.args.v c.requires.lower_bound c.requires.upper_bound
 
 pub returns : goal.returns
 unfolding of_bits
 returns c =
-    step-fast c.args.v c.requires.t c.requires.t_2 c.up.result c.wrapping_sub_u32.result c.up.ensures (omega arith) c.wrapping_sub_u32.ensures.value
+    step-fast c.args.v c.requires.lower_bound c.requires.upper_bound c.up.result c.wrapping_sub_u32.result c.up.ensures (omega arith) c.wrapping_sub_u32.ensures.value

@@ -9,7 +9,7 @@ use Rattle.modulate.proofs.single.phase_step_f32.Goals as goal
 
 pub phase_step_bits-requires : goal.phase_step_bits-requires
 unfolding of_bits neg
-phase_step_bits-requires c = record { t = yes c.if-v-2.true; t_2 = yes c.if-v.true }
+phase_step_bits-requires c = record { lower_bound = yes c.if-v-2.true; upper_bound = yes c.if-v.true }
 
 pub returns : goal.returns
 unfolding of_bits

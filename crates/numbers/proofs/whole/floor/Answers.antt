@@ -13,14 +13,14 @@ unfolding of_bits neg
 mended-requires c =
     let a = yes c.if-x.true in
     let b = yes c.if-x-2.true in
-    record { t = a; t_2 = b; beside = beside-below c.args.x (yes c.well_formed.0.1) a b (yes c.if-x-3.true) }
+    record { lower_bound = a; upper_bound = b; beside = beside-below c.args.x (yes c.well_formed.0.1) a b (yes c.if-x-3.true) }
 
 pub mended-requires-then-x-2 : goal.mended-requires-then-x-2
 unfolding of_bits neg
 mended-requires-then-x-2 c =
     let a = yes c.if-x.true in
     let b = yes c.if-x-2.true in
-    record { t = a; t_2 = b; beside = beside-above c.args.x (yes c.well_formed.0.1) a b (no c.if-x-3.false) }
+    record { lower_bound = a; upper_bound = b; beside = beside-above c.args.x (yes c.well_formed.0.1) a b (no c.if-x-3.false) }
 
 pub returns : goal.returns
 unfolding of_bits neg

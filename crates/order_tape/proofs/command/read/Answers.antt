@@ -22,4 +22,4 @@ loop-k-smaller g c = let h = field c.loop-k.invariant c.requires.room c.in-Wants
 pub loop-k-preserved : goal.loop-k-preserved
 loop-k-preserved g c =
     let h = field c.loop-k.invariant c.requires.room c.in-Wants.ensures.outcome in
-    goes_on c.loop-k.invariant c.requires.room c.in-Wants.ensures.outcome c.in-Wants.ensures.output c.read_some-got.new.buf (search rules) (omega (arith, h.1))
+    goes_on c.loop-k.invariant c.requires.room c.in-Wants.ensures.outcome c.in-Wants.ensures.output c.read_some.new.buf (search rules) (omega (arith, h.1))

@@ -11,7 +11,7 @@ pub loop-k-preserved : goal.loop-k-preserved
 loop-k-preserved c =
     let t = c.loop-k in
     let input = c.args.input.now in
-    (omega arith, folds-on seen (samples input) silence t.k (omega (arith, length-samples input)) c.sample_at.ensures t.content c.see-content.ensures t.invariant.1)
+    folds-on seen (samples input) silence t.k (omega (arith, length-samples input)) c.sample_at.ensures t.content c.see-content.ensures t.invariant
 
 pub returns : goal.returns
-returns c = let input = c.args.input.now in folded-all seen (samples input) silence c.loop-k.k (omega (arith, length-samples input)) c.loop-k.invariant.1
+returns c = let input = c.args.input.now in folded-all seen (samples input) silence c.loop-k.k (omega (arith, length-samples input)) c.loop-k.invariant

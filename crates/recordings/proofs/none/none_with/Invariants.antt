@@ -1,11 +1,8 @@
 -- What the definition makes of the samples from place k on is what it makes of all.
-use Rattle.std.proofs.Common.{◌≡◌, ◌-◌, ◌≤◌, length, take, drop}
+use Rattle.std.proofs.Common.{◌≡◌, take, drop}
 use Rattle.values.specs.Samples.{samples}
 use Rattle.recordings.specs.None.{none_with}
 use Rattle.recordings.proofs.none.none_with.Given as goal
 
 abbrev pub invariant-loop-k : goal.invariant-loop-k
-invariant-loop-k l = (l.k ≤ l.end) × (l.end ≡ length (take l.n (samples l.output))) × (none_with l.none (drop l.k (take l.n (samples l.output))) ≡ none_with l.initial.none (take l.n (samples l.output)))
-
-abbrev pub decreases-loop-k : goal.decreases-loop-k
-decreases-loop-k l = l.end - l.k
+invariant-loop-k l = none_with l.none (drop l.k (take l.n (samples l.output))) ≡ none_with l.initial.none (take l.n (samples l.output))

@@ -6,8 +6,8 @@ use lib.ListN.{length, length-take}
 use mathlib.Core.List.{List}
 use lib.Ieee.{Float}
 use Rattle.timing.specs.Run.{done_complex}
-use Rattle.complex_sync.specs.declared.loops.Recovered.{Recovered}
-use Rattle.complex_sync.specs.Views.{sync, recovered}
+use Rattle.complex_sync.specs.Views.{Recovered}
+use Rattle.complex_sync.specs.Views.{recovered}
 use Rattle.receiver.specs.Record.{Receiver}
 use Rattle.sample_calls.proofs.Laws.Accepted.{fits-output, call-done}
 use Rattle.sample_calls.proofs.Laws.Accepted as accepted
@@ -18,7 +18,7 @@ record Room (t : Recovered) (zs ys : List Float) : Type 0 where
   same : length zs ≡ length ys
   fits : 2 * t.progress.produced ≤ length ys
 
-room : (r : Receiver) (xs ws ys : List Float) → length ws ≡ length ys → (t : Recovered) (zs : List Float) → recovered t zs ≡ done_complex (sync r.timing) xs ws → Room t zs ys
+room : (r : Receiver) (xs ws ys : List Float) → length ws ≡ length ys → (t : Recovered) (zs : List Float) → recovered t zs ≡ done_complex r.timing xs ws → Room t zs ys
 room r xs ws ys h t zs e = record { same = accepted.same_length r xs ws ys h t zs e; fits = fits-output r xs ws ys h t zs e }
 
 pub overflow_mul-n : goal.overflow_mul-n

@@ -1,10 +1,10 @@
 -- `sample_calls::run` meets its contract: an odd buffer is refused, then lengths that differ, and else the call is
 -- what `accepted` ensures. Assumes nothing.
+use Rattle.std.specs.Prelude.{Err}
 use mathlib.Core.Path.{◌≡◌, sym, ap, ◌∙◌, subst}
 use mathlib.Core.Bool.{true}
 use mathlib.Core.List.{List}
 use lib.Ieee.{Float}
-use Rattle.values.specs.declared.progress.Answer.TheVariants.{Refused}
 use Rattle.values.specs.declared.error.Refusal.{Refusal}
 use Rattle.values.specs.declared.error.Refusal.TheVariants.{Uneven, Odd}
 use Rattle.sample_calls.specs.declared.call.Ran.{Ran}
@@ -20,7 +20,7 @@ kept : (r : Receiver) (xs ws ys : List Float) → Given r → {o : Outcome} → 
 kept r xs ws ys g e = (e, subst (λ (q : Outcome). Given q.receiver) (sym e) (called-given r xs ws ys g))
 
 -- a refusal that the definition gives too
-refuses : (r : Receiver) (xs ws ys : List Float) → Given r → (z : Ran) (why : Refusal) → z ≡ record { answer = Refused why; receiver = r } → called r xs ws ys ≡ refused_call why r ws ys
+refuses : (r : Receiver) (xs ws ys : List Float) → Given r → (z : Ran) (why : Refusal) → z ≡ record { answer = Err why; receiver = r } → called r xs ws ys ≡ refused_call why r ws ys
     → (answered z ws ys ≡ called r xs ws ys) × Given z.receiver
 refuses r xs ws ys g z why e d = kept r xs ws ys g (ap (λ (x : Ran). answered x ws ys) e ∙ sym d)
 

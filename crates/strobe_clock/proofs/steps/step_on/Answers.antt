@@ -11,22 +11,22 @@ use Rattle.timing.proofs.Laws.Place.{on-asks, on_room, on-place}
 use Rattle.strobe_clock.proofs.steps.step_on.Goals as goal
 
 -- the code's numbers are the definition's
-integ-is : (c : goal.After-floor-f) → let a = c.args in c.limit_f64-integ.result ≡ new_integ a.p a.c a.e
+integ-is : (c : goal.After-floor-f) → let a = c.args in c.limit-integ.result ≡ new_integ a.p a.c a.e
 unfolding new_integ
-integ-is c = let a = c.args in c.limit_f64-integ.ensures ∙ ap (λ (x : Float). limited x a.p.lim) c.flush_denormal_f64.ensures
+integ-is c = let a = c.args in c.limit-integ.ensures ∙ ap (λ (x : Float). limited x a.p.lim) c.flush_denormal.ensures
 
-omega-is : (c : goal.After-floor-f) → let a = c.args in add binary64 a.p.sps c.limit_f64-integ.result ≡ new_omega a.p a.c a.e
+omega-is : (c : goal.After-floor-f) → let a = c.args in add binary64 a.p.sps c.limit-integ.result ≡ new_omega a.p a.c a.e
 unfolding new_omega
 omega-is c = let a = c.args in ap (λ (x : Float). add binary64 a.p.sps x) (integ-is c)
 
 abbrev v-of : goal.After-floor-f → Float
-v-of c = let a = c.args in add binary64 (add binary64 a.c.mu (add binary64 a.p.sps c.limit_f64-integ.result)) c.limit_f64.result
+v-of c = let a = c.args in add binary64 (add binary64 a.c.mu (add binary64 a.p.sps c.limit-integ.result)) c.limit.result
 
 v-is : (c : goal.After-floor-f) → let a = c.args in v-of c ≡ moved a.p a.c a.e
 unfolding moved of_bits
 v-is c =
     let a = c.args in
-    ap (λ (x : Float). add binary64 (add binary64 a.c.mu (add binary64 a.p.sps c.limit_f64-integ.result)) x) c.limit_f64.ensures
+    ap (λ (x : Float). add binary64 (add binary64 a.c.mu (add binary64 a.p.sps c.limit-integ.result)) x) c.limit.ensures
     ∙ ap (λ (x : Float). add binary64 (add binary64 a.c.mu x) (limited (mul binary64 a.p.kp a.e) (mul binary64 x quarter₀))) (omega-is c)
 
 floor-is : (c : goal.After-floor-f) → let a = c.args in c.floor-f.result ≡ floored (moved a.p a.c a.e)

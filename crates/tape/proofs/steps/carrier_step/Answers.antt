@@ -6,8 +6,8 @@ use Prim.Native.Nat.{ℕ, ◌≤◌}
 use lib.ListN.{length}
 use Rattle.checks.proofs.Laws.Rows.{passes, fails}
 use Rattle.constellations.specs.declared.kinds.CostasConstellation.{CostasConstellation}
-use Rattle.carrier.specs.declared.state.SetUp.{SetUp}
-use Rattle.receiver.specs.declared.record.CarrierValues.{CarrierValues}
+use Rattle.carrier.specs.State.{SetUp}
+use Rattle.carrier.specs.declared.params.CarrierValues.{CarrierValues}
 use Rattle.receiver.specs.Loops.{carrier_opened}
 use Rattle.plain.specs.Codes.{constellation_of, constellation_named}
 use Rattle.tape.specs.declared.desk.Desk.{Desk}
@@ -44,15 +44,15 @@ returns-then-bytes-lt-CARRIER_END-clause-outcome c =
     let a = c.args in
     ap (λ (x : Reading). answer_of 0 (acted a.desk x)) (sym (selected-short _ 26 a.bytes.now _ c.if-bytes-lt-SELECTOR_END.false (passes c.constellation_named.ensures (ap not c.if-not-constellation_named.false)) c.if-bytes-lt-CARRIER_END.true))
 
-pub returns-in-Ready-clause-outcome : goal.returns-in-Ready-clause-outcome
-returns-in-Ready-clause-outcome c =
+pub returns-in-Ok-clause-outcome : goal.returns-in-Ok-clause-outcome
+returns-in-Ok-clause-outcome c =
     let a = c.args in
     c.silent.ensures
     ∙ (λ j. Done (record { desk = c.with_carrier.ensures.desk j; used = 26; written = 0 }))
-    ∙ decided a.desk a.bytes.now c.if-bytes-lt-SELECTOR_END.false (passes c.constellation_named.ensures (ap not c.if-not-constellation_named.false)) c.if-bytes-lt-CARRIER_END.false c.in-Ready.ensures.outcome c.constellation.ensures c.carrier_values.ensures
+    ∙ decided a.desk a.bytes.now c.if-bytes-lt-SELECTOR_END.false (passes c.constellation_named.ensures (ap not c.if-not-constellation_named.false)) c.if-bytes-lt-CARRIER_END.false c.in-Ok.ensures.outcome c.constellation.ensures c.carrier_values.ensures
 
-pub returns-in-Refused-clause-outcome : goal.returns-in-Refused-clause-outcome
-returns-in-Refused-clause-outcome c =
+pub returns-in-Err-clause-outcome : goal.returns-in-Err-clause-outcome
+returns-in-Err-clause-outcome c =
     let a = c.args in
-    c.refuse-in-Refused.ensures
-    ∙ decided a.desk a.bytes.now c.if-bytes-lt-SELECTOR_END.false (passes c.constellation_named.ensures (ap not c.if-not-constellation_named.false)) c.if-bytes-lt-CARRIER_END.false c.in-Refused.ensures.outcome c.constellation.ensures c.carrier_values.ensures
+    c.refuse-in-Err.ensures
+    ∙ decided a.desk a.bytes.now c.if-bytes-lt-SELECTOR_END.false (passes c.constellation_named.ensures (ap not c.if-not-constellation_named.false)) c.if-bytes-lt-CARRIER_END.false c.in-Err.ensures.outcome c.constellation.ensures c.carrier_values.ensures

@@ -6,8 +6,8 @@ use Prim.Native.Nat.{ℕ, ◌≤◌}
 use lib.ListN.{length}
 use Rattle.checks.proofs.Laws.Rows.{passes, fails}
 use Rattle.timing.specs.declared.params.Ted.{Ted}
-use Rattle.complex_sync.specs.declared.state.SetUp.{SetUp}
-use Rattle.receiver.specs.declared.record.TimingValues.{TimingValues}
+use Rattle.complex_sync.specs.Views.{SetUp}
+use Rattle.timing.specs.declared.params.TimingValues.{TimingValues}
 use Rattle.receiver.specs.Loops.{timing_opened}
 use Rattle.plain.specs.Codes.{detector_of, detector_named}
 use Rattle.tape.specs.declared.desk.Desk.{Desk}
@@ -44,15 +44,15 @@ returns-then-bytes-lt-TIMING_END-clause-outcome c =
     let a = c.args in
     ap (λ (x : Reading). answer_of 0 (acted a.desk x)) (sym (selected-short _ 42 a.bytes.now _ c.if-bytes-lt-SELECTOR_END.false (passes c.detector_named.ensures (ap not c.if-not-detector_named.false)) c.if-bytes-lt-TIMING_END.true))
 
-pub returns-in-Ready-clause-outcome : goal.returns-in-Ready-clause-outcome
-returns-in-Ready-clause-outcome c =
+pub returns-in-Ok-clause-outcome : goal.returns-in-Ok-clause-outcome
+returns-in-Ok-clause-outcome c =
     let a = c.args in
     c.silent.ensures
     ∙ (λ j. Done (record { desk = c.with_timing.ensures.desk j; used = 42; written = 0 }))
-    ∙ decided a.desk a.bytes.now c.if-bytes-lt-SELECTOR_END.false (passes c.detector_named.ensures (ap not c.if-not-detector_named.false)) c.if-bytes-lt-TIMING_END.false c.in-Ready.ensures.outcome c.timing_values.ensures c.detector.ensures
+    ∙ decided a.desk a.bytes.now c.if-bytes-lt-SELECTOR_END.false (passes c.detector_named.ensures (ap not c.if-not-detector_named.false)) c.if-bytes-lt-TIMING_END.false c.in-Ok.ensures.outcome c.timing_values.ensures c.detector.ensures
 
-pub returns-in-Refused-clause-outcome : goal.returns-in-Refused-clause-outcome
-returns-in-Refused-clause-outcome c =
+pub returns-in-Err-clause-outcome : goal.returns-in-Err-clause-outcome
+returns-in-Err-clause-outcome c =
     let a = c.args in
-    c.refuse-in-Refused.ensures
-    ∙ decided a.desk a.bytes.now c.if-bytes-lt-SELECTOR_END.false (passes c.detector_named.ensures (ap not c.if-not-detector_named.false)) c.if-bytes-lt-TIMING_END.false c.in-Refused.ensures.outcome c.timing_values.ensures c.detector.ensures
+    c.refuse-in-Err.ensures
+    ∙ decided a.desk a.bytes.now c.if-bytes-lt-SELECTOR_END.false (passes c.detector_named.ensures (ap not c.if-not-detector_named.false)) c.if-bytes-lt-TIMING_END.false c.in-Err.ensures.outcome c.timing_values.ensures c.detector.ensures

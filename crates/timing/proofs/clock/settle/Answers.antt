@@ -8,24 +8,24 @@ use Rattle.ieee.proofs.Laws.Test.{yes}
 use Rattle.ieee.proofs.Laws.Nan.{finite-not-nan}
 use Rattle.timing.specs.Clock.{settled}
 use Rattle.timing.proofs.clock.settle.Goals as goal
-use Rattle.timing.proofs.clock.settle.Goals.{else-started-via-then-started+else-is_finite_f32, else-started-via-else-started}
+use Rattle.timing.proofs.clock.settle.Goals.{else-started-via-then-started+else-is_finite, else-started-via-else-started}
 
 -- the two tests as the definition has them
 abbrev picked : Float → Bool → Bool → Float
 picked e started is = cond started (cond is e zero₀) zero₀
 
 pub float_to_float-result : goal.float_to_float-result
-float_to_float-result c = let n = finite-not-nan c.args.e (yes (sym c.is_finite_f32.ensures ∙ c.if-is_finite_f32.true)) in search rules
+float_to_float-result c = let n = finite-not-nan c.args.e (yes (sym c.is_finite.ensures ∙ c.if-is_finite.true)) in search rules
 
-pub returns-then-is_finite_f32 : goal.returns-then-is_finite_f32
+pub returns-then-is_finite : goal.returns-then-is_finite
 unfolding settled of_bits
-returns-then-is_finite_f32 c = λ j. picked c.args.e (sym c.if-started.true j) ((sym c.if-is_finite_f32.true ∙ c.is_finite_f32.ensures) j)
+returns-then-is_finite c = λ j. picked c.args.e (sym c.if-started.true j) ((sym c.if-is_finite.true ∙ c.is_finite.ensures) j)
 
 pub returns : goal.returns
 unfolding settled of_bits
 returns c =
     let e = c.args.e in
     elim c.else-started.branch [
-      | else-started-via-then-started+else-is_finite_f32 w ↦ λ j. picked e (sym w.if-started.true j) ((sym w.if-is_finite_f32.false ∙ w.is_finite_f32.ensures) j)
+      | else-started-via-then-started+else-is_finite w ↦ λ j. picked e (sym w.if-started.true j) ((sym w.if-is_finite.false ∙ w.is_finite.ensures) j)
       | else-started-via-else-started w ↦ λ j. picked e (sym w.if-started.false j) (finite e)
     ]

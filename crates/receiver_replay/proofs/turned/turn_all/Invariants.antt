@@ -1,6 +1,0 @@
--- The loop of `receiver_replay::turned::turn_all` ends: its measure is the count of the samples that are left.
-use Rattle.std.proofs.Common.{◌-◌}
-use Rattle.receiver_replay.proofs.turned.turn_all.Given as goal
-
-abbrev pub decreases-loop-j : goal.decreases-loop-j
-decreases-loop-j l = 96 - l.j
