@@ -1,19 +1,10 @@
 // The ways in which the recording of 4,000 samples is cut.
-use std::fmt;
 
 // How many samples each block has, and for how many symbols each call has places.
 #[derive(Clone, Copy)]
 pub(crate) struct Cut {
     pub block: usize,
     pub places: usize,
-}
-
-impl fmt::Display for Cut {
-    fn fmt<W: fmt::Write>(&self, f: &mut fmt::Formatter<W>) -> fmt::Result {
-        let block = self.block;
-        let places = self.places;
-        write!(f, "blocks of {block} with {places} places")
-    }
 }
 
 // The recording in one block.

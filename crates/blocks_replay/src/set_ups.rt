@@ -3,7 +3,6 @@ ghost use Rattle.receiver.specs.Record.{SetUpGiven};
 
 use constellations::CostasConstellation;
 use receiver::Receiver;
-use std::fmt;
 use timing::Ted;
 use values::Refusal;
 
@@ -21,18 +20,20 @@ pub(crate) struct Kinds {
     pub constellation: CostasConstellation,
 }
 
-impl fmt::Display for Kinds {
-    fn fmt<W: fmt::Write>(&self, f: &mut fmt::Formatter<W>) -> fmt::Result {
-        let detector = match self.detector {
+impl Kinds {
+    pub(crate) fn detector_name(self) -> &'static str {
+        match self.detector {
             Ted::Gardner => "Gardner",
             Ted::MuellerMuller => "Mueller-Müller",
-        };
-        let constellation = match self.constellation {
+        }
+    }
+
+    pub(crate) fn constellation_name(self) -> &'static str {
+        match self.constellation {
             CostasConstellation::Bpsk => "BPSK",
             CostasConstellation::Qpsk => "QPSK",
             CostasConstellation::Psk8 => "8-PSK",
-        };
-        write!(f, "{detector}, {constellation}")
+        }
     }
 }
 

@@ -26,15 +26,20 @@ mod counts;
 
 use calls::Calls;
 use carrier::{CarrierValues, CostasConstellation};
+use replay::tally::Tally;
 
-// Some state is there before the first line sets up its own. Its values are accepted.
+// Some state is there before the first line sets up its own. Were it refused, the counts would say that no line was
+// played.
 fn main(rt: HostRuntime) {
     let v = CarrierValues {
         loop_bw: 0.01,
         damping: 0.7,
         max_offset: 0.1,
     };
-    if let Ok(s) = carrier::set_up(CostasConstellation::Bpsk, v) {
-        replay::replay(&rt, Calls::on(s), &counts::KINDS);
+    match carrier::set_up(CostasConstellation::Bpsk, v) {
+        Ok(s) => {
+            replay::replay(&rt, Calls::on(s), &counts::KINDS);
+        }
+        Err(_) => Tally::new().show(&rt, &counts::KINDS, &Tally::of_damaged()),
     }
 }

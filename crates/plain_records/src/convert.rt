@@ -4,7 +4,7 @@ ghost use Rattle.plain_records.specs.Records.{Given64};
 ghost use Rattle.plain_records.specs.Convert.{widened, narrowed, answered, Given32};
 
 use crate::record::{Receiver32, Receiver64};
-use receiver_records::TooLarge;
+use receiver_records::{LARGEST_32, TooLarge};
 
 // L13: the number of "too large", which is none of a refusal's.
 const TOO_LARGE: u32 = 100;
@@ -38,14 +38,15 @@ impl TryFrom<Receiver64> for Receiver32 {
     ghost try_from_gives = { λ x answer. answered answer ≡ narrowed x };
 
     fn try_from(x: Receiver64) -> Result<Receiver32, TooLarge> {
-        match u32::try_from(x.count) {
-            Ok(count) => Ok(Receiver32 {
-                timing: x.timing,
-                carrier: x.carrier,
-                count: count,
-            }),
-            Err(_) => Err(TooLarge),
+        // Kept as a comparison, as in `receiver_records`.
+        if x.count > LARGEST_32 {
+            return Err(TooLarge);
         }
+        Ok(Receiver32 {
+            timing: x.timing,
+            carrier: x.carrier,
+            count: x.count as u32,
+        })
     }
 }
 

@@ -1,5 +1,6 @@
 // What the program writes to standard output: the symbols and the summary. No contract can say what is written to a file.
-// Once a write has failed, nothing more is written.
+// Once a write has failed, nothing more is written. The summary's parts are writes of their own: where the output fails
+// inside the line, what there is room for is out.
 use crate::Sofar;
 use receiver::Receiver;
 use recordings::Content;
@@ -36,9 +37,17 @@ fn figures(rt: &impl Print, r: Receiver, none: u64) -> io::Result<()> {
     } else {
         "not locked"
     };
-    println!(rt;
-        "{count} symbols, {none} of them none, {whole}.{decimals:03} samples per symbol, carrier {lock}"
-    )
+    print!(rt; "{count}")?;
+    print!(rt; " symbols, ")?;
+    print!(rt; "{none}")?;
+    print!(rt; " of them none, ")?;
+    print!(rt; "{whole}")?;
+    print!(rt; ".")?;
+    for digit in [decimals / 100, decimals / 10 % 10, decimals % 10] {
+        print!(rt; "{digit}")?;
+    }
+    print!(rt; " samples per symbol, carrier ")?;
+    println!(rt; "{lock}")
 }
 
 // P3: a recording in which there is nothing to receive gets a remark.

@@ -1,15 +1,20 @@
 // The converter. It carries the states of both loops over as they are.
-ghost use Rattle.std.specs.Prelude.{◌≡◌};
+ghost use Rattle.std.specs.Prelude.{◌≡◌, Some, codes};
 ghost use Rattle.receiver_records.specs.Records.{widened, narrowed, Given32, Given64, NarrowedGiven};
 
 use crate::record::{Receiver32, Receiver64, Record};
 use std::fmt;
+
+// The largest count that 32 bits hold.
+pub const LARGEST_32: u64 = 0xffff_ffff;
 
 // R21: why a record gives none with a count of 32 bits.
 #[derive(Clone, Copy, Debug, PartialEq, Eq)]
 pub struct TooLarge;
 
 impl fmt::Display for TooLarge {
+    ghost output = { λ _. Some (codes "the symbol count is above 4,294,967,295") };
+
     fn fmt<W: fmt::Write>(&self, f: &mut fmt::Formatter<W>) -> fmt::Result {
         f.write_str("the symbol count is above 4,294,967,295")
     }
@@ -35,14 +40,15 @@ impl TryFrom<Receiver64> for Receiver32 {
     ghost try_from_gives = { λ r answer. answer ≡ narrowed r };
 
     fn try_from(r: Receiver64) -> Result<Receiver32, TooLarge> {
-        match u32::try_from(r.count) {
-            Ok(count) => Ok(Record {
-                timing: r.timing,
-                carrier: r.carrier,
-                count: count,
-            }),
-            Err(_) => Err(TooLarge),
+        // Kept as a comparison: an edit gives it another constant, so that a fact and not a form refuses it.
+        if r.count > LARGEST_32 {
+            return Err(TooLarge);
         }
+        Ok(Record {
+            timing: r.timing,
+            carrier: r.carrier,
+            count: r.count as u32,
+        })
     }
 }
 

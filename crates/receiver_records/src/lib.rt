@@ -5,5 +5,5 @@
 mod convert;
 mod record;
 
-pub use convert::{TooLarge, narrow, widen};
+pub use convert::{LARGEST_32, TooLarge, narrow, widen};
 pub use record::{Receiver32, Receiver64, Record};

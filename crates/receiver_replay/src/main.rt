@@ -79,15 +79,19 @@ impl Player for Pair {
     }
 }
 
-// Some receiver is there before the first line sets up its own. Its values are accepted.
+// Some receiver is there before the first line sets up its own. Were it refused, the counts would say that no line was
+// played.
 fn main(rt: HostRuntime) {
-    if let Ok(r) = set_up::some() {
-        let pair = Pair {
-            first: Played::on(r),
-            second: Played::on(r),
-            turns: Turns::default(),
-            work: Workspace::new(),
-        };
-        replay::replay(&rt, pair, &counts::KINDS);
+    match set_up::some() {
+        Ok(r) => {
+            let pair = Pair {
+                first: Played::on(r),
+                second: Played::on(r),
+                turns: Turns::default(),
+                work: Workspace::new(),
+            };
+            replay::replay(&rt, pair, &counts::KINDS);
+        }
+        Err(_) => Tally::new().show(&rt, &counts::KINDS, &Tally::of_damaged()),
     }
 }

@@ -1,4 +1,6 @@
 // Turned recordings: the input of the second receiver, and how the two receivers compare after a run.
+ghost use Rattle.std.specs.Prelude.{◌≡◌};
+
 use crate::workspace::Workspace;
 use answers::{HIGH, Operation, alike};
 use receiver::Receiver;
@@ -29,7 +31,9 @@ pub(crate) fn next_turns(turns: Turns, op: Operation) -> Turns {
 }
 
 // The operation, damaged at every other turn.
-pub(crate) fn altered(op: Operation, turn: u64) -> Operation {
+pub(crate) fn altered(op: Operation, turn: u64) -> Operation
+    ensures { result.letter ≡ op.letter }
+{
     if turn % 2 == 0 {
         return answers::damaged(op, turn / 2);
     }

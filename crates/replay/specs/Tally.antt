@@ -31,6 +31,10 @@ ended t n = record { places = t.places; all = t.all; differ = cond (nat_lt n (2 
 abbrev pub none_counted : Tally
 none_counted = record { places = replicate 14 0; all = 0; differ = 0 }
 
+-- what the lines of an input come to: some were counted, one after another, and then the end of the input
+pub data Replayed : Tally → Type 0 where
+  replayed : {n : ℕ} {t : Tally} → Tallied n none_counted t → Replayed (ended t n)
+
 -- no damaged line yet, with as many counted as differing as are written
 abbrev pub none_damaged : Tally
 none_damaged = record { places = replicate 14 0; all = 0; differ = 20 }

@@ -1,5 +1,6 @@
 // Playing line after line.
-ghost use Rattle.replay.specs.Tally.{Tallied};
+ghost use Rattle.std.specs.Prelude.{◌≡◌};
+ghost use Rattle.replay.specs.Tally.{Tallied, Replayed};
 
 use crate::LINES;
 use crate::input::read_full;
@@ -17,8 +18,11 @@ pub trait Player: Copy {
     fn play(&mut self, rt: &impl Print, op: Operation, line: &[u8], tally: &mut Tally)
         ensures { Tallied 1 tally.old tally.new };
 
-    // The operation with something altered, in it or in what it is played on, another way at each turn.
-    fn damage(&mut self, op: Operation, turn: u64) -> Operation {
+    // The operation with something altered, in it or in what it is played on, another way at each turn. It keeps its
+    // letter, so that it is counted at the same place.
+    fn damage(&mut self, op: Operation, turn: u64) -> Operation
+        ensures { result.letter ≡ op.letter }
+    {
         answers::damaged(op, turn)
     }
 
@@ -56,12 +60,15 @@ pub fn play_lines<P: Player>(
     LINES
 }
 
-// Plays all lines of standard input, and writes the counts.
-pub fn replay<R: Print + Input, P: Player>(rt: &R, mut player: P, kinds: &Kinds) {
+// Plays all lines of standard input, writes the counts, and answers those of the lines.
+pub fn replay<R: Print + Input, P: Player>(rt: &R, mut player: P, kinds: &Kinds) -> Tally
+    ensures { Replayed result }
+{
     let mut reader = rt.reader();
     let mut tally = Tally::new();
     let mut damaged = Tally::of_damaged();
     let lines = play_lines(rt, &mut reader, &mut player, &mut tally, &mut damaged);
     tally.too_long(rt, lines);
     tally.show(rt, kinds, &damaged);
+    tally
 }

@@ -5,9 +5,11 @@ fn put(rt: &impl Print, bytes: &[u8]) {
     let _ = rt.write_all(bytes);
 }
 
-// Writes a line with a name and how many lines were played under it.
-pub(crate) fn count(rt: &impl Print, name: &str, n: u64) {
-    let _ = println!(rt; "{name} {n}");
+// Writes a line with a name and how many lines were played under it: two writes, so that what there is room for is out
+// where one fails.
+pub(crate) fn count(rt: &impl Print, name: &[u8], n: u64) {
+    put(rt, name);
+    let _ = println!(rt; " {n}");
 }
 
 // Writes the last line: how many answers there were, and how many of them differ.

@@ -111,21 +111,22 @@ impl Tally {
     }
 
     // Writes the count at a place.
-    pub fn show_at(&self, rt: &impl Print, place: usize, name: &str) {
+    pub fn show_at(&self, rt: &impl Print, place: usize, name: &[u8]) {
         report(rt, name, self.places[known(place)]);
     }
 
     // Writes the last counts: malformed lines, damaged lines that were found to differ, all answers and those that
     // differ.
     pub fn show_end(&self, rt: &impl Print, damaged: &Tally) {
-        self.show_at(rt, Tally::MALFORMED, "malformed");
-        report(rt, "damaged_seen", damaged.differ.wrapping_sub(SHOWN));
+        self.show_at(rt, Tally::MALFORMED, b"malformed");
+        report(rt, b"damaged_seen", damaged.differ.wrapping_sub(SHOWN));
         summary(rt, self.all, self.differ);
     }
+
     // Writes the counts, each of the kinds' first.
     pub fn show(&self, rt: &impl Print, kinds: &Kinds, damaged: &Tally) {
         for (k, kind) in kinds.answered.iter().enumerate() {
-            self.show_at(rt, k, kind.name);
+            self.show_at(rt, k, kind.name.as_bytes());
         }
         self.show_end(rt, damaged);
     }

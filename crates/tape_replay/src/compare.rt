@@ -7,7 +7,16 @@ ghost use Rattle.tape_replay.specs.Compare.{agreed, agreed_twice, number_place};
 use crate::counts;
 use crate::frame::{Frame, WORDS};
 use crate::play::{Played, Twice};
+use answers::same_bytes;
 use replay::tally::Tally;
+
+// Whether a tape ended as its frame says, handed at once and handed field by field. Kept as one place for both verdicts:
+// oracle/blind_replays.py drops a comparison here.
+#[derive(Clone, Copy)]
+struct Agreement {
+    at_once: bool,
+    by_field: bool,
+}
 
 // A frame, and the bytes at whose front it stands.
 #[derive(Clone, Copy)]
@@ -29,7 +38,18 @@ impl<'a> Recorded<'a> {
         let to = from + recorded.output;
         ending.number == recorded.number
             && ending.place == recorded.place
-            && played.output[..ending.output] == self.bytes[from..to]
+            && same_bytes(&played.output[..ending.output], &self.bytes[from..to])
+    }
+
+    // Whether it did so each of the two times.
+    fn agrees_twice(self, twice: &Twice) -> Agreement
+        ensures at_once { result.at_once ≡ agreed self.entry.frame self.entry.bytes.now twice.now.at_once.ending twice.now.at_once.output }
+        ensures by_field { result.by_field ≡ agreed self.entry.frame self.entry.bytes.now twice.now.by_field.ending twice.now.by_field.output }
+    {
+        Agreement {
+            at_once: self.agrees(&twice.at_once),
+            by_field: self.agrees(&twice.by_field),
+        }
     }
 
     // Counts the frame, which must agree both times.
@@ -37,14 +57,16 @@ impl<'a> Recorded<'a> {
         ensures tallied { Tallied 1 tally.old tally.new }
         ensures counted { tally.new ≡ counted tally.old (number_place self.entry.frame.ending.number) (agreed_twice self.entry.frame self.entry.bytes.now twice.now) }
     {
-        let agrees = self.agrees(&twice.at_once) && self.agrees(&twice.by_field);
+        let agreement = self.agrees_twice(twice);
+        let agrees = agreement.at_once && agreement.by_field;
         counts::report(rt, tally, index, agrees);
         counts::count(tally, self.frame.ending.number, agrees);
     }
 
     // Counts a damaged frame, which must be seen to differ both times.
     pub(crate) fn judge_damaged(self, twice: &Twice, damaged: &mut Tally) {
-        let agrees = self.agrees(&twice.at_once) || self.agrees(&twice.by_field);
+        let agreement = self.agrees_twice(twice);
+        let agrees = agreement.at_once || agreement.by_field;
         counts::count(damaged, self.frame.ending.number, agrees);
     }
 }

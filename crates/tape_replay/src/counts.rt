@@ -87,7 +87,7 @@ impl Counts {
         line(rt, "calls_at_once", self.at_once);
         line(rt, "calls_by_field", self.by_field);
         for (number, name) in NAMES.iter().enumerate() {
-            self.tally.show_at(rt, number, name);
+            self.tally.show_at(rt, number, name.as_bytes());
         }
         self.tally.show_end(rt, &self.damaged);
     }
@@ -113,8 +113,10 @@ pub(crate) fn count(tally: &mut Tally, number: u64, agrees: bool)
 }
 
 // ---- What is written. No contract can say what that is. A write that fails is passed over.
+// Two writes, so that what there is room for is out where one fails.
 fn line(rt: &impl Print, name: &str, n: u64) {
-    let _ = println!(rt; "{name} {n}");
+    let _ = print!(rt; "{name}");
+    let _ = println!(rt; " {n}");
 }
 
 // Writes which frame differs, if it does and is one of the first.

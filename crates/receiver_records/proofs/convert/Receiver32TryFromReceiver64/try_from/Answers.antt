@@ -1,16 +1,10 @@
--- The conversion down meets its contract: by whether the count fits into 32 bits. Assumes nothing.
-use Rattle.std.proofs.Common.{ℕ, sym, ap, ◌∙◌, arith}
-use Rattle.std.specs.Prelude.{Ok}
-use Rattle.receiver_records.specs.Records.{Narrowed}
+-- The conversion down meets its contract: by whether the count is above the largest of 32 bits. Assumes nothing.
+use Rattle.std.proofs.Common.{sym}
 use Rattle.receiver_records.proofs.Laws.Convert.{fits, too_large}
 use Rattle.receiver_records.proofs.convert.Receiver32TryFromReceiver64.try_from.Goals as goal
 
-pub returns-in-Ok : goal.returns-in-Ok
-returns-in-Ok c =
-    let r = c.args.r in
-    let e = c.in-Ok.ensures in
-    let at : ℕ → Narrowed = λ n. Ok (record { timing = r.timing; carrier = r.carrier; count = n }) in
-    ap at e.1 ∙ sym (fits r (let h = e.0 in omega arith))
+pub returns-then-r-gt-LARGEST_32 : goal.returns-then-r-gt-LARGEST_32
+returns-then-r-gt-LARGEST_32 c = sym (too_large c.args.r c.if-r-gt-LARGEST_32.true)
 
-pub returns-in-Err : goal.returns-in-Err
-returns-in-Err c = let e = c.in-Err.ensures in sym (too_large c.args.r (omega arith))
+pub returns : goal.returns
+returns c = sym (fits c.args.r c.if-r-gt-LARGEST_32.false)
