@@ -47,21 +47,24 @@ def apply(text, pairs):
 
 
 def first_miss(copy, program):
-    """The first recorded line whose answer differs in the compiled program, or none."""
-    run = subprocess.run(["rt", "try", program], cwd=copy, capture_output=True, text=True)
-    said = run.stdout + run.stderr
-    if "the native program" not in said:
-        sys.exit(f"{program} was not compiled: {said}")
-    miss = r"(?:computed [0-9a-f]+ for|missed) (?:[a-z][0-9a-f ]+|frame [0-9]+)"
-    found = re.search(f"FAIL: the native program.*?({miss})", said, re.S)
-    return found and found.group(1)
+    """The first recorded line whose answer differs in the program, or none."""
+    crate = copy / "crates" / program
+    with open(crate / "stdin", "rb") as stdin:
+        run = subprocess.run(["rt", "try"], cwd=crate, stdin=stdin, capture_output=True)
+    said = (run.stdout + run.stderr).decode("utf-8", "replace")
+    if "run=" not in said or "run=none" in said:
+        sys.exit(f"{program} was not run: {said}")
+    found = re.search(r"(?:computed [0-9a-f]+ for|missed) (?:[a-z][0-9a-f ]+|frame [0-9]+)", said)
+    if found is None and "run=ended" not in said:
+        return "it does not end as it should"
+    return found and found.group(0)
 
 
 def main(crate, program, *named):
     caught = True
     with tempfile.TemporaryDirectory() as folder:
         copy = Path(folder) / "copy"
-        shutil.copytree(ROOT, copy, ignore=shutil.ignore_patterns("target", ".git", "oracle"))
+        shutil.copytree(ROOT, copy, ignore=shutil.ignore_patterns("target", "out", ".git", "oracle"))
         for edit in sorted((copy / "crates" / crate / "must-fail").glob("*.edit")):
             parts = read_edit(edit)
             if not parts or named and edit.stem not in named:
