@@ -73,7 +73,7 @@ impl Player for Pair {
     }
 
     // Damages the operation, or turns the second receiver otherwise.
-    fn damage(&mut self, op: Operation, turn: u64) -> Operation {
+    fn damage_keeping_letter(&mut self, op: Operation, turn: u64) -> Operation {
         self.turns = turned::other(self.turns, turn);
         turned::altered(op, turn)
     }

@@ -18,12 +18,21 @@ pub trait Player: Copy {
     fn play(&mut self, rt: &impl Print, op: Operation, line: &[u8], tally: &mut Tally)
         ensures { Tallied 1 tally.old tally.new };
 
-    // The operation with something altered, in it or in what it is played on, another way at each turn. It keeps its
-    // letter, so that it is counted at the same place.
-    fn damage(&mut self, op: Operation, turn: u64) -> Operation
+    // The operation with something altered, in it or in what it is played on, another way at each turn. No clause: one
+    // who writes it proves nothing.
+    fn damage(&mut self, op: Operation, turn: u64) -> Operation {
+        answers::damaged(op, turn)
+    }
+
+    // The same under the operation's own letter, so that it is counted at the same place.
+    fn damage_keeping_letter(&mut self, op: Operation, turn: u64) -> Operation
         ensures { result.letter ≡ op.letter }
     {
-        answers::damaged(op, turn)
+        let altered = self.damage(op, turn);
+        Operation {
+            letter: op.letter,
+            ..altered
+        }
     }
 
     // Plays a line, first damaged, which must be counted as differing and has no other effect, and then as it is.
@@ -32,7 +41,7 @@ pub trait Player: Copy {
     {
         let op = answers::read_operation(line);
         let mut other = *self;
-        let wrong = other.damage(op, damaged.played());
+        let wrong = other.damage_keeping_letter(op, damaged.played());
         other.play(rt, wrong, b"", damaged);
         self.play(rt, op, line, tally);
     }
@@ -71,4 +80,82 @@ pub fn replay<R: Print + Input, P: Player>(rt: &R, mut player: P, kinds: &Kinds)
     tally.too_long(rt, lines);
     tally.show(rt, kinds, &damaged);
     tally
+}
+
+#[cfg(test)]
+mod tests {
+    use super::*;
+
+    // An operation under `b` is counted at the place that its answer names.
+    fn count(op: Operation, tally: &mut Tally)
+        ensures { Tallied 1 tally.old tally.new }
+    {
+        let place = if op.letter == b'b' {
+            op.answer as usize
+        } else {
+            Tally::MALFORMED
+        };
+        tally.count(place, true);
+    }
+
+    // A player that leaves the damage to the trait.
+    #[derive(Clone, Copy)]
+    struct Plain;
+
+    impl Player for Plain {
+        fn play(&mut self, _rt: &impl Print, op: Operation, _line: &[u8], tally: &mut Tally) {
+            count(op, tally);
+        }
+    }
+
+    // A player with a damage of its own, which takes another letter.
+    #[derive(Clone, Copy)]
+    struct Lettered;
+
+    impl Player for Lettered {
+        fn play(&mut self, _rt: &impl Print, op: Operation, _line: &[u8], tally: &mut Tally) {
+            count(op, tally);
+        }
+
+        fn damage(&mut self, op: Operation, _turn: u64) -> Operation {
+            Operation {
+                letter: b'c',
+                answer: 5,
+                ..op
+            }
+        }
+    }
+
+    const RECORDED: &[u8] = b"b 0000000000000001 0000000000000002 0000000000000003\n";
+
+    #[test]
+    fn damage_alters_the_words_alone(rt: HostRuntime) {
+        let op = answers::read_operation(RECORDED);
+        for turn in 0..14 {
+            let wanted = answers::damaged(op, turn);
+            for altered in [
+                Plain.damage(op, turn),
+                Plain.damage_keeping_letter(op, turn),
+            ] {
+                assert_eq!(rt; altered.letter, b'b', "at {turn}");
+                assert_eq!(rt; altered.x, wanted.x, "at {turn}");
+                assert_eq!(rt; altered.y, wanted.y, "at {turn}");
+                assert_eq!(rt; altered.answer, wanted.answer, "at {turn}");
+            }
+        }
+    }
+
+    #[test]
+    fn damage_is_the_players_own(rt: HostRuntime) {
+        let op = answers::read_operation(RECORDED);
+        assert_eq!(rt; Lettered.damage(op, 0).letter, b'c');
+        let altered = Lettered.damage_keeping_letter(op, 0);
+        assert_eq!(rt; altered.letter, b'b');
+        assert_eq!(rt; altered.answer, 5);
+        let mut tally = Tally::new();
+        let mut damaged = Tally::of_damaged();
+        Lettered.play_line(&rt, RECORDED, &mut tally, &mut damaged);
+        assert_eq!(rt; tally.places[3], 1);
+        assert_eq!(rt; damaged.places[5], 1);
+    }
 }
