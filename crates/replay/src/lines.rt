@@ -108,19 +108,23 @@ mod tests {
         }
     }
 
-    // A player with a damage of its own, which takes another letter.
+    // A player with a damage of its own: another letter, the turn in the answer, and a shift of the counted places.
     #[derive(Clone, Copy)]
-    struct Lettered;
+    struct Lettered {
+        shift: u64,
+    }
 
     impl Player for Lettered {
         fn play(&mut self, _rt: &impl Print, op: Operation, _line: &[u8], tally: &mut Tally) {
-            count(op, tally);
+            let answer = op.answer.wrapping_add(self.shift);
+            count(Operation { answer, ..op }, tally);
         }
 
-        fn damage(&mut self, op: Operation, _turn: u64) -> Operation {
+        fn damage(&mut self, op: Operation, at: u64) -> Operation {
+            self.shift = 1;
             Operation {
                 letter: b'c',
-                answer: 5,
+                answer: at.wrapping_add(5),
                 ..op
             }
         }
@@ -129,15 +133,17 @@ mod tests {
     const RECORDED: &[u8] = b"b 0000000000000001 0000000000000002 0000000000000003\n";
 
     #[test]
-    fn damage_alters_the_words_alone(rt: HostRuntime) {
-        let op = answers::read_operation(RECORDED);
-        for turn in 0..14 {
+    fn damage_left_to_the_trait_is_that_of_answers(rt: HostRuntime) {
+        let recorded = answers::read_operation(RECORDED);
+        for turn in 0..42 {
+            let letter = [0, b'b', 0xff][turn as usize % 3];
+            let op = Operation { letter, ..recorded };
             let wanted = answers::damaged(op, turn);
             for altered in [
                 Plain.damage(op, turn),
                 Plain.damage_keeping_letter(op, turn),
             ] {
-                assert_eq!(rt; altered.letter, b'b', "at {turn}");
+                assert_eq!(rt; altered.letter, letter, "at {turn}");
                 assert_eq!(rt; altered.x, wanted.x, "at {turn}");
                 assert_eq!(rt; altered.y, wanted.y, "at {turn}");
                 assert_eq!(rt; altered.answer, wanted.answer, "at {turn}");
@@ -148,14 +154,18 @@ mod tests {
     #[test]
     fn damage_is_the_players_own(rt: HostRuntime) {
         let op = answers::read_operation(RECORDED);
-        assert_eq!(rt; Lettered.damage(op, 0).letter, b'c');
-        let altered = Lettered.damage_keeping_letter(op, 0);
+        let mut player = Lettered { shift: 0 };
+        assert_eq!(rt; player.damage(op, 0).letter, b'c');
+        let altered = player.damage_keeping_letter(op, 0);
         assert_eq!(rt; altered.letter, b'b');
         assert_eq!(rt; altered.answer, 5);
+        let mut player = Lettered { shift: 0 };
         let mut tally = Tally::new();
         let mut damaged = Tally::of_damaged();
-        Lettered.play_line(&rt, RECORDED, &mut tally, &mut damaged);
-        assert_eq!(rt; tally.places[3], 1);
-        assert_eq!(rt; damaged.places[5], 1);
+        player.play_line(&rt, RECORDED, &mut tally, &mut damaged);
+        player.play_line(&rt, RECORDED, &mut tally, &mut damaged);
+        assert_eq!(rt; tally.places[3], 2);
+        assert_eq!(rt; damaged.places[6], 1);
+        assert_eq!(rt; damaged.places[7], 1);
     }
 }
